@@ -1,0 +1,4 @@
+pub mod BlankLemmas
+pub mod CutLemmas
+pub mod MapLemmas
+pub mod ReadLemmas

@@ -1,0 +1,9 @@
+pub mod Blanks
+pub mod Document
+pub mod Members
+pub mod Names
+pub mod Numbers
+pub mod Pieces
+pub mod Script
+pub mod Steps
+pub mod Values
