@@ -5,6 +5,7 @@
 
 mod blanks;
 mod document;
+mod laws;
 mod members;
 mod names;
 mod numbers;
@@ -13,6 +14,7 @@ mod script;
 mod values;
 
 pub use document::{LARGEST, read_document};
+pub use laws::numbers_are_decimal_digits;
 pub use members::{Member, Program};
 pub use names::RESERVED;
 pub use script::read_script;
