@@ -5,7 +5,7 @@ use Rattle.std.specs.declared.option.Option.{Option}
 use Rattle.std.specs.declared.result.Result.{Result}
 use Rattle.std.specs.declared.result.Result.TheVariants.{Ok, Err}
 use Rattle.qml_outside.specs.Folder.{Folder, file_at}
-use Rattle.qml_model.specs.declared.text.Member.{Member}
+use Rattle.first_form.specs.declared.members.Member.{Member}
 use Rattle.qml_model.specs.declared.trace.LoadCause.{LoadCause}
 use Rattle.qml_model.specs.Machine.{Output}
 use Rattle.qml_model.specs.declared.trace.Ending.{Ending}
