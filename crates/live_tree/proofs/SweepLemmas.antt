@@ -1,10 +1,9 @@
 -- A sweep brings the table one level deeper, and never beyond what is fresh.
-use Rattle.std.proofs.Common.{zero-add, add-one, ◌≡◌, ◌≢◌, ◌∙◌, ap, sym, refl, subst, ℕ, zero, suc, ◌+◌, ◌-◌, ◌<◌, ◌≤◌, ◌⊎◌, inl, inr, List, [], ◌∷◌, length, slice_get, slice_set, length-set, count_by, arith}
-use Rattle.std.proofs.Math.Path.{fun_ext}
+use Rattle.std.proofs.Common.{zero-add, add-one, ◌≡◌, ◌≢◌, ◌∙◌, ap, sym, refl, subst, ℕ, zero, suc, ◌+◌, ◌<◌, ◌≤◌, ◌⊎◌, inl, inr, List, [], ◌∷◌, length, slice_get, slice_set, length-set, count_by, arith}
 use Rattle.std.proofs.lemmas.Bool.{cases_lt, cases_eq}
 use Rattle.std.proofs.lemmas.List.{set-get_or}
 use Rattle.std.proofs.lemmas.Option.{slice_get_past}
-use Rattle.std.specs.declared.option.Option.TheVariants.{None, Some}
+use Rattle.std.specs.declared.option.Option.TheVariants.{Some}
 use Rattle.qml_model.specs.declared.content.Content.{Content}
 use Rattle.qml_model.specs.declared.content.Outcome.{Outcome}
 use Rattle.qml_model.specs.declared.content.Outcome.TheVariants.{Value, Loop, Past}
@@ -107,11 +106,11 @@ module _ (contents : List Content) where
       let o = outcome_of (read_in table) x in
       let next = slice_set table c (outcome_of (read_in table) x) in
       let gives : read_in table c ≡ outcome_of (read_in table) x =
-          sym (ap (λ (t : List Outcome). read_in t c) same)
-          ∙ swept_before (suc c) xs (slice_set table c (outcome_of (read_in table) x)) c (omega arith)
-          ∙ read_set_same table c (outcome_of (read_in table) x) place in
+      sym (ap (λ (t : List Outcome). read_in t c) same)
+      ∙ swept_before (suc c) xs (slice_set table c (outcome_of (read_in table) x)) c (omega arith)
+      ∙ read_set_same table c (outcome_of (read_in table) x) place in
       let stays : slice_set table c (outcome_of (read_in table) x) ≡ table =
-          ap (λ (v : Outcome). slice_set table c v) (sym gives ∙ read_is table c) ∙ set-get_or table c Loop in
+      ap (λ (v : Outcome). slice_set table c v) (sym gives ∙ read_is table c) ∙ set-get_or table c Loop in
       let here : if_there (outcome_of (read_in table)) (slice_get contents c) ≡ read_in table c = ap (if_there (outcome_of (read_in table))) (content_at contents c x xs from) ∙ sym gives in
       let rest : swept_from (suc c) xs table ≡ table = sym (ap (swept_from (suc c) xs) stays) ∙ same in
       swept_solves (suc c) xs table (next_from contents c x xs from) n rest

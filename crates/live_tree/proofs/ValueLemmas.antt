@@ -1,15 +1,15 @@
 -- The values that cells hold by a table of outcomes are those that settle by it.
-use Rattle.std.proofs.Common.{add-one, append_assoc, if◌then◌else◌, ◌++◌, ◌+◌, ◌<◌, drop, take, get_or, pos, Bool, true, false, ◌≡◌, ◌≢◌, ◌∙◌, ap, sym, refl, ℕ, zero, suc, ℤ, List, [], ◌∷◌, length, slice_get, arith}
+use Rattle.std.proofs.Common.{add-one, append_assoc, if◌then◌else◌, ◌++◌, ◌+◌, ◌<◌, drop, take, get_or, pos, true, false, ◌≡◌, ◌≢◌, ◌∙◌, ap, sym, refl, ℕ, zero, suc, ℤ, List, [], ◌∷◌, length, slice_get, arith}
 use Rattle.std.proofs.Math.Seq.{drop-cons, take-append_seam}
 use Rattle.std.proofs.Math.Path.{fun_ext}
 use Rattle.std.specs.Ordering.{int_eq}
 use Rattle.std.specs.declared.result.Result.{Result}
-use Rattle.std.specs.declared.option.Option.TheVariants.{None, Some}
+use Rattle.std.specs.declared.option.Option.TheVariants.{Some}
 use Rattle.std.specs.declared.result.Result.TheVariants.{Ok, Err}
 use Rattle.qml_model.specs.declared.content.Outcome.{Outcome}
 use Rattle.qml_model.specs.declared.content.Content.{Content}
 use Rattle.qml_model.specs.declared.content.Outcome.TheVariants.{Value, Loop, Past}
-use Rattle.qml_model.specs.Settling.{State, settled, settled_from, fresh, changed_from, Holds}
+use Rattle.qml_model.specs.Settling.{settled, settled_from, fresh, changed_from, Holds}
 use Rattle.qml_model.proofs.SettlingLemmas.{values_are}
 use Rattle.live_tree.specs.Sweeps.{read_in}
 use Rattle.live_tree.specs.Values.{held_by, held_all, SettlesValues}

@@ -68,11 +68,7 @@ fn hold(table: &[Outcome], values: &mut [i64])
 }
 
 /// Settles the values by these outcomes, and gives the cells that changed.
-pub fn settle(
-    alloc: Global,
-    table: &[Outcome],
-    values: &mut [i64],
-) -> Result<Changed, SettleFault>
+pub fn settle(alloc: Global, table: &[Outcome], values: &mut [i64]) -> Result<Changed, SettleFault>
     requires small { length values.old ≤ 2 ^ 32 }
     requires all { length table.now ≡ length values.old }
     ensures { SettlesValues (read_in table.now) values.old result values.new }

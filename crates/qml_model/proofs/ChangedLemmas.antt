@@ -1,11 +1,9 @@
 -- Which cells change.
-use Rattle.std.proofs.Common.{rules, Bool, true, false, if◌then◌else◌, add-zero, zero-add, add-one, ◌≡◌, ◌≢◌, ◌∙◌, ap, sym, refl, ℕ, zero, suc, ◌+◌, ◌<◌, ◌≤◌, ◌⊎◌, inl, inr, ℤ, List, [], ◌∷◌, length, slice_get, slice_index, slice_index_or, get_or, Contains, arith}
+use Rattle.std.proofs.Common.{rules, Bool, true, false, if◌then◌else◌, add-zero, zero-add, add-one, ◌≡◌, ◌≢◌, ◌∙◌, sym, refl, ℕ, zero, suc, ◌+◌, ◌<◌, ◌≤◌, ℤ, List, [], ◌∷◌, length, slice_index, slice_index_or, get_or, Contains, arith}
 use Rattle.std.proofs.lemmas.List.Elements.{Contains-get_or}
 use Rattle.std.proofs.lemmas.Bool.Decides.{Decides-int_eq}
 use Rattle.std.specs.List.Sorted.{IsStrictlyIncreasing}
 use Rattle.std.specs.Ordering.{int_eq}
-use Rattle.std.specs.declared.option.Option.{Option}
-use Rattle.std.specs.declared.option.Option.TheVariants.{None, Some}
 use Rattle.qml_model.specs.Settling.{changed, changed_from, Differs}
 
 int_eq_same : (x : ℤ) → int_eq x x ≡ true

@@ -1,19 +1,15 @@
 -- What settling gives, cell by cell.
-use Rattle.std.proofs.Common.{rules, Bool, true, false, add-zero, zero-add, suc-add, add-suc, add-one, ◌≡◌, ◌≢◌, ◌∙◌, ap, sym, refl, ℕ, zero, suc, ◌+◌, ◌<◌, ◌≤◌, ◌⊎◌, ◌↔◌, inl, inr, ℤ, List, [], ◌∷◌, length, slice_get, arith, count_by}
+use Rattle.std.proofs.Common.{add-zero, zero-add, ◌≡◌, ◌≢◌, ◌∙◌, ap, sym, refl, ℕ, zero, suc, ◌+◌, ◌<◌, ◌≤◌, ◌⊎◌, inl, inr, ℤ, List, [], ◌∷◌, length, slice_get, arith, count_by}
 use Rattle.std.proofs.lemmas.Bool.{cases_lt}
-use Rattle.std.proofs.lemmas.Option.{slice_get_past, slice_get_within, same_Some}
-use Rattle.std.specs.declared.option.Option.{Option}
-use Rattle.std.specs.declared.option.Option.TheVariants.{None, Some}
+use Rattle.std.proofs.lemmas.Option.{same_Some}
+use Rattle.std.specs.declared.option.Option.TheVariants.{Some}
 use Rattle.std.specs.declared.result.Result.{Result}
 use Rattle.std.specs.declared.result.Result.TheVariants.{Ok, Err}
-use Rattle.qml_model.specs.declared.content.Product.{Product}
 use Rattle.qml_model.specs.declared.content.Content.{Content}
-use Rattle.qml_model.specs.declared.content.Content.TheVariants.{Plain, Sum}
+use Rattle.qml_model.specs.declared.content.Content.TheVariants.{Plain}
 use Rattle.qml_model.specs.declared.content.Outcome.{Outcome}
 use Rattle.qml_model.specs.declared.content.Outcome.TheVariants.{Value, Loop, Past}
-use Rattle.qml_model.specs.Settling.{State, fresh, is_bound, hold, settled, settled_from, changed, changed_from, Holds, SettlesTo, IsLowestPast, Fresh, Differs}
-use Rattle.std.specs.Ordering.{int_eq}
-use Rattle.std.proofs.lemmas.Bool.Decides.{Decides-int_eq}
+use Rattle.qml_model.specs.Settling.{State, fresh, is_bound, hold, settled, settled_from, Holds, SettlesTo, IsLowestPast, Fresh}
 use Rattle.qml_model.proofs.DepthLemmas.{past_end}
 
 -- the first cell holds by its outcome, and the others settle
@@ -198,4 +194,3 @@ module _ (s : State) (values : List ℤ) (settles : SettlesTo s values) where
 
   pub settles_again : SettlesTo (record { contents = s.contents; values = values }) values
   settles_again = record { as_many = refl; each = again }
-

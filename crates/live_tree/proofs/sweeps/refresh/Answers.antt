@@ -1,6 +1,6 @@
-use Rattle.std.proofs.Common.{rules, arith, ◌≤◌, ◌≡◌, count_by}
+use Rattle.std.proofs.Common.{rules, arith, ◌≡◌, count_by}
 use Rattle.qml_model.specs.Settling.{is_bound}
-use Rattle.live_tree.proofs.SweepLemmas.{begun, swept, deep_enough, at_rest, IsBetween}
+use Rattle.live_tree.proofs.SweepLemmas.{begun, swept, deep_enough, at_rest}
 use Rattle.live_tree.proofs.sweeps.refresh.Goals as goal
 
 pub loop-init : goal.loop-init

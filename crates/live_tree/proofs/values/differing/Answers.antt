@@ -1,8 +1,6 @@
-use Rattle.std.proofs.Common.{rules, ◌≡◌, ◌∙◌, sym, pos, get_or, true, false, w64, FitsSigned}
+use Rattle.std.proofs.Common.{rules, ◌∙◌, sym, pos, get_or, w64, FitsSigned}
 use Rattle.std.proofs.lemmas.Int.{to_z-of_z}
-use Rattle.std.specs.Ordering.{int_eq}
 use Rattle.qml_model.specs.declared.content.Outcome.TheVariants.{Value}
-use Rattle.live_tree.specs.Values.{held_by}
 use Rattle.live_tree.proofs.ValueLemmas.{cell_stays, cell_changes}
 use Rattle.live_tree.proofs.values.differing.Goals as goal
 use Rattle.live_tree.proofs.values.differing.Goals.{then-not-is_kept+in_ok-push, else-not-is_kept}

@@ -1,6 +1,5 @@
 use Rattle.qml_model.proofs.SettlingLemmas.{settles_to, settled_is, settles_again}
 use Rattle.qml_model.proofs.ChangedLemmas.{unchanged}
-use Rattle.qml_model.specs.Settling.{State}
 use Rattle.qml_model.proofs.laws.settling_again_changes_nothing.Goals as goal
 
 pub returns : goal.returns

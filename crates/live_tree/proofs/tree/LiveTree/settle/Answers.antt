@@ -1,4 +1,4 @@
-use Rattle.std.proofs.Common.{arith, ◌≡◌, ◌++◌, take, drop, length}
+use Rattle.std.proofs.Common.{arith, ◌≡◌, length}
 use Rattle.live_tree.proofs.ValueLemmas.{written_back}
 use Rattle.live_tree.proofs.tree.LiveTree.settle.Goals as goal
 
