@@ -27,7 +27,7 @@ pub loaded_traced : (traced : Traced) (old new : Reads) (root script before now 
     → Traces traced old new (λ file. (file ≡ script) × IsOk loaded) before now (with_program root script loaded)
 loaded_traced traced old new root script before now members loaded e t =
     let P : Result (List Member) LoadCause → Type 0 = λ l. Traces traced old new (λ file. (file ≡ script) × IsOk l) before now (with_program root script l) in
-    subst P e (with_fact (Unit {0}) traced old new script before now (λ files. with_lines root script members (lines_read members (file_at files script))) tt t)
+    subst P e (with_fact (IsOk {T = List Member} {E = LoadCause} (Ok members)) traced old new script before now (λ files. with_lines root script members (lines_read members (file_at files script))) refl t)
 
 needs_script : (told : Option Folder) (root script file : List ℕ) (bytes : Option (List ℕ)) → IfSome told (λ files. bytes ≡ file_at files root) → file ≡ script → IsOk (load bytes) → NeedsOf root script told file
 needs_script None root script file bytes found is ok = inr (is, tt)

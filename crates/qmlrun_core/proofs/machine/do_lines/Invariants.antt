@@ -6,7 +6,6 @@ use Rattle.qmlrun_core.proofs.machine.do_lines.Given as goal
 -- going on from here gives the whole run
 abbrev pub invariant-script : goal.invariant-script
 invariant-script g l = record {
-  few : length l.tree.contents ≤ 2 ^ 32;
   named : IsNamed l.names l.tree;
   exact : told l.text.items (script_run l.names l.tree (drop l.line-index l.script)) ≡ told l.fn.text.items (script_run l.names l.fn.tree l.script);
 }
