@@ -1,11 +1,11 @@
 -- What settling and changing name are cells that are there.
-use Rattle.std.proofs.Common.{◌≡◌, ◌<◌, ℕ, ℤ, List, length, map, pos, get_or, arith, subst, sym}
+use Rattle.std.proofs.Common.{◌≡◌, ◌<◌, ℕ, ℤ, List, length, map, get_or, subst, sym}
 use Rattle.std.specs.List.{All}
 use Rattle.std.specs.declared.result.Result.TheVariants.{Ok, Err}
 use Rattle.std.proofs.lemmas.List.{length-map}
 use Rattle.std.proofs.lemmas.List.Elements.{All-contains_itself}
 use Rattle.std.proofs.lemmas.Option.{slice_get_within}
-use Rattle.qml_model.specs.Settling.{State, Differs, settled, changed}
+use Rattle.qml_model.specs.Settling.{State, settled, changed}
 use Rattle.qml_model.specs.Machine.{made}
 use Rattle.qml_model.proofs.ChangedLemmas.{only_listed}
 use Rattle.qml_model.proofs.SettlingLemmas.{settles_to, lowest_past}
@@ -23,9 +23,9 @@ past_cell s past e = (lowest_past s past e).there
 pub changed_cells : (count : ℕ) (old new : List ℤ) (cells : List ℕ) → cells ≡ changed old new → length old ≡ count → All (λ c. c < count) cells
 changed_cells count old new cells e len =
     let all : All (λ c. c < count) (changed old new) = λ k d lt.
-        let c = get_or (changed old new) k d in
-        let differs = only_listed old new c (All-contains_itself (changed old new) k d lt) in
-        subst (λ (n : ℕ). c < n) len (slice_get_within old c differs.before differs.was) in
+    let c = get_or (changed old new) k d in
+    let differs = only_listed old new c (All-contains_itself (changed old new) k d lt) in
+    subst (λ (n : ℕ). c < n) len (slice_get_within old c differs.before differs.was) in
     subst (λ (cs : List ℕ). All (λ c. c < count) cs) (sym e) all
 
 -- the cells that are made have the names of the members

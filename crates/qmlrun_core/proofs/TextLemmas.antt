@@ -1,12 +1,12 @@
 -- Bytes that were told before a part of the run.
-use Rattle.std.proofs.Common.{◌≡◌, ◌∙◌, ap, sym, refl, ℕ, List, [], ◌∷◌, ◌++◌, append_assoc, codes}
+use Rattle.std.proofs.Common.{◌≡◌, ◌∙◌, ap, sym, ℕ, List, [], ◌∷◌, ◌++◌, append_assoc, codes}
 use Rattle.std.proofs.lemmas.Grind.{flat_map-append}
 use Rattle.qml_model.specs.declared.content.Content.{Content}
 use Rattle.qml_model.specs.declared.text.ScriptLine.{ScriptLine}
 use Rattle.qml_model.specs.Machine.{Output, after, settled_run, made, run_of}
 use Rattle.qml_model.specs.Trace as entry
 use Rattle.qml_model.specs.Trace.{Entry, entry_bytes, trace_bytes}
-use Rattle.qmlrun_core.specs.Steps.{Text, told}
+use Rattle.qmlrun_core.specs.Steps.{told}
 
 -- entries that were told stand behind the earlier bytes
 told_after : (bytes : List ℕ) (entries : List Entry) (o : Output) → told bytes (after entries o) ≡ told (bytes ++ trace_bytes entries) o

@@ -1,9 +1,9 @@
 -- From a part of reading to the whole of it.
-use Rattle.std.proofs.Common.{◌≡◌, sym, refl, subst, ap, ℕ, List, inl, inr, None, Some}
+use Rattle.std.proofs.Common.{◌≡◌, refl, subst, ℕ, List, inr, None, Some}
 use Rattle.std.specs.Prelude.{IfSome, IsOk}
 use Rattle.std.specs.declared.option.Option.{Option}
 use Rattle.std.specs.declared.result.Result.{Result}
-use Rattle.std.specs.declared.result.Result.TheVariants.{Ok, Err}
+use Rattle.std.specs.declared.result.Result.TheVariants.{Ok}
 use Rattle.qml_outside.specs.Folder.{Folder, file_at}
 use Rattle.first_form.specs.declared.members.Member.{Member}
 use Rattle.qml_model.specs.declared.trace.LoadCause.{LoadCause}

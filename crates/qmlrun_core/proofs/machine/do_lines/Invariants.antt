@@ -1,4 +1,4 @@
-use Rattle.std.proofs.Common.{◌≡◌, ◌≤◌, ◌^◌, drop, length}
+use Rattle.std.proofs.Common.{◌≡◌, drop}
 use Rattle.qml_model.specs.Machine.{script_run}
 use Rattle.qmlrun_core.specs.Steps.{told, IsNamed}
 use Rattle.qmlrun_core.proofs.machine.do_lines.Given as goal
