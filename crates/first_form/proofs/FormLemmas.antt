@@ -1,8 +1,7 @@
 -- Spaces, words and gaps are cut off exactly where they stand.
-use Rattle.std.proofs.Common.{◌≡◌, ◌≢◌, ◌∙◌, ap, sym, refl, subst, ℕ, ◌==◌, ◌||◌, ◌&&◌, arith, Bool, true, false, inl, inr, List, [], ◌∷◌, ◌++◌, append_assoc, append-nil, None, Some, if◌then◌else◌}
-use Rattle.std.specs.declared.option.Option.{Option}
+use Rattle.std.proofs.Common.{◌≡◌, ◌≢◌, ◌∙◌, ap, sym, refl, subst, ℕ, ◌==◌, ◌||◌, ◌&&◌, arith, Bool, true, false, inl, inr, List, [], ◌∷◌, ◌++◌, append_assoc, None, Some, if◌then◌else◌}
 use Rattle.first_form.specs.Blanks.{is_spaces, after_spaces, word_of, behind_word, lone_word, begins_with_line_feed, begins_with_line_end, after_gap}
-use Rattle.first_form.specs.Forms.{IsSpaces, IsLineEnd, IsBlank, AreBlanks, IsGap, IsPadded}
+use Rattle.first_form.specs.Forms.{IsSpaces, IsBlank, AreBlanks, IsGap, IsPadded}
 
 pub is_equal : (a b : ℕ) → a ≡ b → (a == b) ≡ true
 is_equal a b h = grind arith

@@ -1,8 +1,10 @@
 pub mod BlankLemmas
 pub mod CutLemmas
+pub mod DocumentLemmas
 pub mod FormLemmas
 pub mod MapLemmas
 pub mod MarkLemmas
 pub mod NameLemmas
 pub mod NumberLemmas
 pub mod ReadLemmas
+pub mod ValueLemmas

@@ -1,5 +1,5 @@
 -- Pieces and cuts are exactly what stands between marks.
-use Rattle.std.proofs.Common.{◌≡◌, ◌≢◌, ◌∙◌, ap, sym, refl, subst, ℕ, ◌+◌, ◌==◌, ◌||◌, ◌&&◌, not, arith, Bool, true, false, List, [], ◌∷◌, ◌++◌, append_assoc, None, Some, if◌then◌else◌, count_by}
+use Rattle.std.proofs.Common.{◌≡◌, ◌∙◌, ap, sym, refl, subst, ℕ, ◌+◌, ◌==◌, ◌||◌, ◌&&◌, not, arith, Bool, true, false, List, [], ◌∷◌, ◌++◌, None, Some, if◌then◌else◌, count_by}
 use Rattle.std.specs.declared.option.Option.{Option}
 use Rattle.std.specs.Option.{option_map}
 use Rattle.std.specs.Char.{is_ascii_alphanumeric}

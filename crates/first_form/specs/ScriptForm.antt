@@ -1,10 +1,9 @@
 -- What text is a script of this form: its lines, one after another.
 use Rattle.std.specs.Prelude.{◌≡◌, ◌≢◌, ◌⊎◌, ℕ, ◌+◌, ◌<◌, ◌≤◌, ℤ, pos, neg_ℤ, true, false, List, [], ◌∷◌, ◌++◌, length, codes}
-use Rattle.std.specs.List.{list_any}
 use Rattle.qml_model.specs.declared.text.Deed.{Deed}
 use Rattle.qml_model.specs.declared.text.Deed.TheVariants.{Do, Print}
 use Rattle.qml_model.specs.declared.text.ScriptLine.{ScriptLine}
-use Rattle.first_form.specs.Forms.{IsLineEnd, IsNumber, IsCell}
+use Rattle.first_form.specs.Forms.{IsNumber, IsCell}
 use Rattle.first_form.specs.Script.{is_skipped}
 
 -- this byte doesn't stand in the text

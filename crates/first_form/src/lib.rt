@@ -14,7 +14,7 @@ mod script;
 mod values;
 
 pub use document::{LARGEST, read_document};
-pub use laws::numbers_are_decimal_digits;
+pub use laws::{documents_are_read_as_spelled, numbers_are_decimal_digits};
 pub use members::{Member, Program};
 pub use names::RESERVED;
 pub use script::read_script;
