@@ -7,4 +7,5 @@ pub mod MarkLemmas
 pub mod NameLemmas
 pub mod NumberLemmas
 pub mod ReadLemmas
+pub mod ScriptLemmas
 pub mod ValueLemmas
