@@ -444,25 +444,25 @@ line_end_begins line_end rest (inl e) = subst (λ (xs : List ℕ). (after_spaces
 line_end_begins line_end rest (inr e) = subst (λ (xs : List ℕ). (after_spaces (xs ++ rest) ≡ xs ++ rest) × (begins_with_line_end (xs ++ rest) ≡ true)) (sym e) (refl, refl)
 
 -- the object and what stands before it
-record IsBelow (ms : List Member) (bytes : List ℕ) : Type 0 where
-  spaces : List ℕ
-  line_end : List ℕ
-  first : List ℕ
-  second : List ℕ
-  body : List ℕ
-  back : List ℕ
-  spelled : bytes ≡ spaces ++ (line_end ++ (first ++ (codes "QtObject" ++ (second ++ 123 ∷ (body ++ 125 ∷ back)))))
-  spaces_is : IsSpaces spaces
-  line_end_is : IsLineEnd line_end
-  first_is : IsGap first
-  second_is : IsGap second
-  body_is : AreMembers [] ms body
-  back_is : IsGap back
+pub record IsBelow (ms : List Member) (bytes : List ℕ) : Type 0 where
+  pub spaces : List ℕ
+  pub line_end : List ℕ
+  pub first : List ℕ
+  pub second : List ℕ
+  pub body : List ℕ
+  pub back : List ℕ
+  pub spelled : bytes ≡ spaces ++ (line_end ++ (first ++ (codes "QtObject" ++ (second ++ 123 ∷ (body ++ 125 ∷ back)))))
+  pub spaces_is : IsSpaces spaces
+  pub line_end_is : IsLineEnd line_end
+  pub first_is : IsGap first
+  pub second_is : IsGap second
+  pub body_is : AreMembers [] ms body
+  pub back_is : IsGap back
 
 abbrev named_of : List ℕ → Option (List Member)
 named_of bytes = after_front (codes "QtObject") (after_gap bytes) >>= λ rest. after_front (codes "{") (after_gap rest) >>= in_braces
 
-below_found : (bytes : List ℕ) (ms : List Member) → object_below bytes ≡ Some ms → IsBelow ms bytes
+pub below_found : (bytes : List ℕ) (ms : List Member) → object_below bytes ≡ Some ms → IsBelow ms bytes
 below_found bytes ms e = by (begins_with_line_end (after_spaces bytes)) refl
   where
     by : (t : Bool) → begins_with_line_end (after_spaces bytes) ≡ t → IsBelow ms bytes

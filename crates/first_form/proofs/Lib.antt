@@ -1,4 +1,5 @@
 pub mod BlankLemmas
+pub mod BoundLemmas
 pub mod CutLemmas
 pub mod DocumentLemmas
 pub mod FormLemmas

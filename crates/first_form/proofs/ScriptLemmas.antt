@@ -49,7 +49,7 @@ lacks_front m [] b h = tt
 lacks_front m (x ∷ a) b h = (h.0, lacks_front m a b h.1)
 
 -- ---- lines
-abbrev texts_of : Pieces → List (List ℕ)
+abbrev pub texts_of : Pieces → List (List ℕ)
 texts_of (last line) = line ∷ []
 texts_of (piece line mark rest) = without_return line ∷ texts_of rest
 
@@ -184,11 +184,11 @@ deed_only names line (Do c z) (name, number, spelled, lacks, cell, signed) =
     ∙ ap (option_map (Do c)) (signed_only number z signed)
 
 -- ---- all lines
-abbrev read_from : List (List ℕ) → ℕ → List (List ℕ) → Result (List ScriptLine) ℕ
+abbrev pub read_from : List (List ℕ) → ℕ → List (List ℕ) → Result (List ScriptLine) ℕ
 read_from names n [] = Ok []
 read_from names n (line ∷ lines) = with_line names n line (read_from names (suc n) lines)
 
-script_from-texts : (names : List (List ℕ)) (n : ℕ) (ps : Pieces) → script_from names n ps ≡ read_from names n (texts_of ps)
+pub script_from-texts : (names : List (List ℕ)) (n : ℕ) (ps : Pieces) → script_from names n ps ≡ read_from names n (texts_of ps)
 script_from-texts names n (last line) = refl
 script_from-texts names n (piece line mark rest) = ap (with_line names n (without_return line)) (script_from-texts names (suc n) rest)
 
@@ -206,7 +206,7 @@ onto_err : (line : List ℕ) (deed : Deed) (rest : Result (List ScriptLine) ℕ)
 onto_err line deed (Ok lines) n e = absurd (cc)
 onto_err line deed (Err bad) n e = e
 
-ok_found : (names : List (List ℕ)) (lines : List (List ℕ)) (n : ℕ) (read : List ScriptLine) → read_from names n lines ≡ Ok read → AsksAll names read lines
+pub ok_found : (names : List (List ℕ)) (lines : List (List ℕ)) (n : ℕ) (read : List ScriptLine) → read_from names n lines ≡ Ok read → AsksAll names read lines
 ok_found names [] n read e = cc
 ok_found names (line ∷ lines) n read e = by (is_skipped line) (deed_of names line) refl refl (ok_found names lines (suc n))
   where
