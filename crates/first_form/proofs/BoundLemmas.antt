@@ -1,5 +1,5 @@
 -- What is read is within bounds.
-use Rattle.std.proofs.Common.{◌≡◌, ◌≢◌, ◌∙◌, ap, sym, refl, subst, ℕ, suc, zero, ◌+◌, ◌^◌, ◌<◌, ◌≤◌, arith, add-one, false, inl, inr, ℤ, pos, neg_ℤ, unsigned_abs, List, [], ◌∷◌, ◌++◌, length, map, slice_get, None, Some, IfOk, IfSome}
+use Rattle.std.proofs.Common.{◌≡◌, ◌≢◌, ◌∙◌, ap, sym, refl, subst, ℕ, suc, zero, ◌^◌, ◌<◌, ◌≤◌, arith, add-one, inl, inr, ℤ, pos, neg_ℤ, List, [], ◌∷◌, ◌++◌, length, slice_get, None, Some, IfOk, IfSome}
 use Rattle.std.specs.declared.option.Option.{Option}
 use Rattle.std.specs.declared.result.Result.{Result}
 use Rattle.std.specs.declared.result.Result.TheVariants.{Ok, Err}
@@ -18,14 +18,14 @@ use Rattle.qml_model.specs.declared.text.ScriptLine.{ScriptLine}
 use Rattle.first_form.specs.declared.members.Member.{Member}
 use Rattle.first_form.specs.Bounds.{IsSmall, IsFactorBelow, AreFactorsBelow, AreProductsBelow, IsContentBelow, AreInOrder, IsDeedBelow, AreLinesBelow}
 use Rattle.first_form.specs.Document.{names_of, object_below}
-use Rattle.first_form.specs.DocumentForm.{IsOperand, IsProduct, AreProducts, IsPlain, IsValue, IsMember, AreMembers, no_more, final, empty_line, more}
-use Rattle.first_form.specs.Forms.{IsPadded, IsNumber}
-use Rattle.first_form.specs.Pieces.{Pieces, pieces_of}
+use Rattle.first_form.specs.DocumentForm.{IsOperand, IsProduct, AreProducts, IsPlain, IsValue, AreMembers, no_more, final, empty_line, more}
+use Rattle.first_form.specs.Forms.{IsPadded}
+use Rattle.first_form.specs.Pieces.{pieces_of}
 use Rattle.first_form.specs.Script.{script_from}
 use Rattle.first_form.specs.ScriptForm.{IsSigned, Asks, AsksAll}
-use Rattle.first_form.specs.Steps.{lines_in, GivesLines}
-use Rattle.first_form.proofs.DocumentLemmas.{IsBelow, below_found}
-use Rattle.first_form.proofs.ScriptLemmas.{read_from, texts_of, script_from-texts, ok_found}
+use Rattle.first_form.specs.Steps.{GivesLines}
+use Rattle.first_form.proofs.DocumentLemmas.{below_found}
+use Rattle.first_form.proofs.ScriptLemmas.{texts_of, script_from-texts, ok_found}
 
 there : (names : List (List ℕ)) (c : ℕ) (w : List ℕ) → slice_get names c ≡ Some w → c < length names
 there [] c w e = absurd (cc)

@@ -1,5 +1,5 @@
 -- A document is read exactly where it is spelled.
-use Rattle.std.proofs.Common.{◌≡◌, ◌≢◌, ◌⊎◌, ◌∙◌, ap, sym, refl, subst, ℕ, ◌-◌, ◌≤◌, ◌==◌, ◌||◌, ◌&&◌, not, is_some, arith, nat_le, nat_eq, Bool, true, false, inl, inr, List, [], ◌∷◌, ◌++◌, length, take, drop, slice_get, append_assoc, append-nil, None, Some, if◌then◌else◌, codes}
+use Rattle.std.proofs.Common.{◌≡◌, ◌≢◌, ◌⊎◌, ◌∙◌, ap, sym, refl, subst, ℕ, ◌-◌, ◌≤◌, ◌==◌, ◌||◌, ◌&&◌, not, is_some, arith, nat_le, nat_eq, Bool, true, false, inl, inr, List, [], ◌∷◌, ◌++◌, length, take, drop, slice_get, append_assoc, append-nil, None, Some, if◌then◌else◌, codes, true≢false}
 use Rattle.std.specs.declared.option.Option.{Option}
 use Rattle.std.specs.Option.{option_map}
 use Rattle.std.specs.List.{starts_with, ends_with}
@@ -15,8 +15,9 @@ use Rattle.first_form.specs.Forms.{IsSpaces, IsLineEnd, IsGap}
 use Rattle.first_form.specs.Names.{is_name, cell_of, is_new_name}
 use Rattle.first_form.specs.Pieces.{is_mark, Cut, cut_of, Pieces, last, piece, pieces_of}
 use Rattle.first_form.specs.Values.{content_of}
-use Rattle.first_form.proofs.FormLemmas.{IsWord, BeginsSpace, BeginsNoSpace, equal_is, other_is, spaces_found, spaces_only, after_spaces-append, after_spaces-other, after_spaces-front, word_of-append, behind_word-append, word_cut, lone_found, lone_only, blank_cut, after_gap-append, after_gap-front}
-use Rattle.first_form.proofs.MarkLemmas.{Clean, Clean-append, Over, Over-append, Over-more, over_clean, cut_found, cut_of-mark, joined, AreCut, joined-pieces_of, pieces_are_cut, pieces_of-mark, pieces_of-clean}
+use Rattle.first_form.proofs.FormLemmas.{word_starts, IsWord, BeginsSpace, BeginsNoSpace, equal_is, other_is, spaces_found, spaces_only, after_spaces-append, after_spaces-other, after_spaces-front, word_of-append, behind_word-append, word_cut, lone_found, lone_only, blank_cut, after_gap-append, after_gap-front}
+use Rattle.first_form.proofs.MapLemmas.{is_none_of}
+use Rattle.first_form.proofs.MarkLemmas.{one_mark, Clean, Clean-append, Over, Over-append, Over-more, over_clean, cut_found, cut_of-mark, joined, AreCut, joined-pieces_of, pieces_are_cut, pieces_of-mark, pieces_of-clean}
 use Rattle.first_form.proofs.NameLemmas.{cell_none, cell_missing, name_word, name_over, name_some, letters_word, letters_over, and_left, and_right}
 use Rattle.first_form.proofs.ValueLemmas.{AreNames, AreNames-snoc, bind_some, map_some, spaces_over, wider, value_found, value_only, value_over}
 
@@ -28,10 +29,6 @@ behind_begins (b ∷ bs) = by (b == 32) refl (behind_begins bs)
     by : (t : Bool) → (b == 32) ≡ t → BeginsSpace (behind_word bs) → BeginsSpace (behind_word (b ∷ bs))
     by true f rest = subst (λ t. BeginsSpace (if t then b ∷ bs else behind_word bs)) (sym f) (equal_is b 32 f)
     by false f rest = subst (λ t. BeginsSpace (if t then b ∷ bs else behind_word bs)) (sym f) rest
-
-word_starts : (w rest : List ℕ) → IsWord w → w ≢ [] → BeginsNoSpace (w ++ rest)
-word_starts [] rest h n = absurd (n refl)
-word_starts (b ∷ bs) rest h n = h.0
 
 after_word_found : (word bytes rest : List ℕ) → after_word word bytes ≡ Some rest → (front : List ℕ) × (bytes ≡ front ++ (word ++ rest)) × IsSpaces front × BeginsSpace rest
 after_word_found word bytes rest e = by (bytes_eq (word_of (after_spaces bytes)) word) refl
@@ -85,18 +82,14 @@ head_found bytes name e named =
     some_more [] ys n e = n refl
     some_more (x ∷ xs) ys n e = cc
 
-spaces_begin_more : (back : List ℕ) → IsSpaces back → BeginsSpace back
-spaces_begin_more [] h = tt
-spaces_begin_more (b ∷ bs) h = h.0
-
 head_only : (bytes name : List ℕ) → IsHead name bytes → is_name name ≡ true → declared_name bytes ≡ Some name
 head_only bytes name head named =
     let mid : List ℕ = head.second ++ (name ++ head.back) in
     let kind : List ℕ = head.first ++ (codes "int" ++ mid) in
     let one : after_word (codes "property") bytes ≡ Some kind =
-      ap (after_word (codes "property")) head.spelled ∙ after_word_only head.front (codes "property") kind head.front_is (letters_word (codes "property") refl) (λ e. cc) (break_begins head.first (codes "int" ++ mid) head.first_is) in
+    ap (after_word (codes "property")) head.spelled ∙ after_word_only head.front (codes "property") kind head.front_is (letters_word (codes "property") refl) (λ e. cc) (break_begins head.first (codes "int" ++ mid) head.first_is) in
     let two : after_word (codes "int") kind ≡ Some mid =
-      after_word_only head.first (codes "int") mid head.first_is.0 (letters_word (codes "int") refl) (λ e. cc) (break_begins head.second (name ++ head.back) head.second_is) in
+    after_word_only head.first (codes "int") mid head.first_is.0 (letters_word (codes "int") refl) (λ e. cc) (break_begins head.second (name ++ head.back) head.second_is) in
     ap (λ (o : Option (List ℕ)). o >>= after_word (codes "int") >>= lone_word) one
     ∙ ap (λ (o : Option (List ℕ)). o >>= lone_word) two
     ∙ lone_only head.second name head.back head.second_is.0 (name_word name named) (name_some name named) head.back_is
@@ -116,26 +109,18 @@ not_is : (b : Bool) → not b ≡ true → b ≡ false
 not_is true e = absurd (cc)
 not_is false e = refl
 
-none_of : {A : Type 0} (o : Option A) → is_some o ≡ false → o ≡ None
-none_of None e = refl
-none_of (Some x) e = absurd (cc)
-
-colon_is : (mark : ℕ) → is_mark (58 ∷ []) mark ≡ true → mark ≡ 58
-colon_is mark e = by (58 == mark) refl
-  where
-    by : (t : Bool) → (58 == mark) ≡ t → mark ≡ 58
-    by true f = sym (equal_is 58 mark f)
-    by false f = absurd (cc (ap (λ t. t || false) f))
-
 valued : (names : List (List ℕ)) → AreNames names → (name value : List ℕ) (m : Member) → with_value names name value ≡ Some m → (m.name ≡ name) × (is_name name ≡ true) × ((c : ℕ) → slice_get names c ≢ Some name) × IsValue names m.content value
 valued names are name value m e = by (is_new_name names name) refl
   where
     by : (t : Bool) → is_new_name names name ≡ t → (m.name ≡ name) × (is_name name ≡ true) × ((c : ℕ) → slice_get names c ≢ Some name) × IsValue names m.content value
     by true f =
         let (content, read, is) = map_some {B = Member} (content_of names value) (λ content. record { name = name; content = content }) m (sym (ap (λ t. if t then option_map {U = Member} (λ content. record { name = name; content = content }) (content_of names value) else None) f) ∙ e) in
-        let missing : cell_of names name ≡ None = none_of (cell_of names name) (not_is (is_some (cell_of names name)) (and_right (is_name name) (not (is_some (cell_of names name))) f)) in
-        (ap (λ (m : Member). m.name) (sym is), and_left (is_name name) (not (is_some (cell_of names name))) f, cell_none names name missing,
-        subst (λ (m : Member). IsValue names m.content value) is (value_found names are value content read))
+        let missing : cell_of names name ≡ None = is_none_of (cell_of names name) (not_is (is_some (cell_of names name)) (and_right (is_name name) (not (is_some (cell_of names name))) f)) in (
+          ap (λ (m : Member). m.name) (sym is),
+          and_left (is_name name) (not (is_some (cell_of names name))) f,
+          cell_none names name missing,
+          subst (λ (m : Member). IsValue names m.content value) is (value_found names are value content read),
+        )
     by false f = absurd (cc (ap (λ t. if t then option_map {U = Member} (λ content. record { name = name; content = content }) (content_of names value) else None) f))
 
 member_found : (names : List (List ℕ)) → AreNames names → (line : List ℕ) (m : Member) → member_of names line ≡ Some m → IsMember names m line
@@ -148,7 +133,7 @@ member_found names are line m e =
     record {
       head = c.before;
       value = c.after;
-      spelled = spelled ∙ ap (λ k. c.before ++ k ∷ c.after) (colon_is c.mark mark);
+      spelled = spelled ∙ ap (λ k. c.before ++ k ∷ c.after) (one_mark 58 c.mark mark);
       head_is = subst (λ (n : List ℕ). IsHead n c.before) (sym is) (head_found c.before name declared named);
       named = ap is_name is ∙ named;
       new = λ k h. fresh k (h ∙ ap Some is);
@@ -190,11 +175,8 @@ member_no_spaces : (names : List (List ℕ)) (line : List ℕ) (m : Member) → 
 member_no_spaces names line m is = false_from (is_spaces line) (λ e. no_spaces is.head is.value (subst IsSpaces is.spelled (spaces_found line e)))
 
 -- ---- lines
-true_false : true ≡ false → ⊥
-true_false e = cc
-
 return_clean : (w : List ℕ) → Clean (13 ∷ []) (w ++ 13 ∷ []) → ⊥
-return_clean [] h = true_false h.0
+return_clean [] h = true≢false h.0
 return_clean (b ∷ w) h = return_clean w h.1
 
 pub ends_return : (line : List ℕ) → (ends_with nat_eq line (13 ∷ []) ≡ true → line ≡ take (length line - 1) line ++ 13 ∷ []) × ((front : List ℕ) → line ≡ front ++ 13 ∷ [] → ends_with nat_eq line (13 ∷ []) ≡ true)
@@ -225,7 +207,6 @@ line_cut line = by (ends_with nat_eq line (13 ∷ [])) refl
         let alone : without_return line ≡ take (length line - 1) line = ap (λ t. if t then take (length line - 1) line else line) f in
         (13 ∷ 10 ∷ [], inr refl, λ rest. ap (λ (w : List ℕ). w ++ 13 ∷ 10 ∷ rest) alone ∙ sym (append_assoc (take (length line - 1) line) (13 ∷ []) (10 ∷ rest)) ∙ ap (λ (w : List ℕ). w ++ 10 ∷ rest) (sym ((ends_return line).0 f)))
     by false f = (10 ∷ [], inl refl, λ rest. ap (λ (w : List ℕ). w ++ 10 ∷ rest) (ap (λ t. if t then take (length line - 1) line else line) f))
-
 
 -- ---- the members
 empty_case : (names : List (List ℕ)) (ms : List Member) (line rest : List ℕ) → is_spaces (without_return line) ≡ true → AreMembers names ms rest → AreMembers names ms (line ++ 10 ∷ rest)
@@ -279,7 +260,7 @@ joins names are line mark rest found after marked at go = by (mark == 10) refl
     other : (a b : Bool) → (59 == mark) ≡ a → (10 == mark) ≡ b → (mark == 10) ≡ false → (59 == mark) ≡ true
     other true b f g h = f
     other false true f g h = absurd (other_is mark 10 h (sym (equal_is 10 mark g)))
-    other false false f g h = absurd (true_false (sym marked ∙ ap (λ t. t || ((10 == mark) || false)) f ∙ ap (λ t. t || false) g))
+    other false false f g h = absurd (true≢false (sym marked ∙ ap (λ t. t || ((10 == mark) || false)) f ∙ ap (λ t. t || false) g))
 
     by : (t : Bool) → (mark == 10) ≡ t → AreMembers names (found ++ after) (line ++ mark ∷ rest)
     by true f = fed (equal_is mark 10 f) (line_gives names are (without_return line) found (sym (ap (λ t. if t then members_in names (without_return line) else option_map (λ m. m ∷ []) (member_of names line)) f) ∙ at))
@@ -396,21 +377,17 @@ braces_found bytes ms e =
     let (gap, at, is) = after_gap-front c.after in
     by c spelled mark gap at is (is_empty (after_gap c.after)) refl read
   where
-    brace_is : (mark : ℕ) → is_mark (125 ∷ []) mark ≡ true → mark ≡ 125
-    brace_is mark e = brace (125 == mark) refl
-      where
-        brace : (t : Bool) → (125 == mark) ≡ t → mark ≡ 125
-        brace true f = sym (equal_is 125 mark f)
-        brace false f = absurd (true_false (sym e ∙ ap (λ t. t || false) f))
-
     by : (c : Cut) → bytes ≡ c.before ++ c.mark ∷ c.after → is_mark (125 ∷ []) c.mark ≡ true → (gap : List ℕ) → c.after ≡ gap ++ after_gap c.after → IsGap gap → (t : Bool) → is_empty (after_gap c.after) ≡ t
         → (if is_empty (after_gap c.after) then members_of [] (pieces_of (59 ∷ 10 ∷ []) c.before) else None) ≡ Some ms → (body : List ℕ) × (back : List ℕ) × (bytes ≡ body ++ 125 ∷ back) × AreMembers [] ms body × IsGap back
     by c spelled mark gap at is true f read =
         let whole : gap ≡ c.after = sym (at ∙ ap (λ (xs : List ℕ). gap ++ xs) (is_empty_is (after_gap c.after) f) ∙ append-nil gap) in
-        let opened : members_of [] (pieces_of (59 ∷ 10 ∷ []) c.before) ≡ Some ms = sym (ap (λ t. if t then members_of [] (pieces_of (59 ∷ 10 ∷ []) c.before) else None) f) ∙ read in
-        (c.before, c.after, spelled ∙ ap (λ k. c.before ++ k ∷ c.after) (brace_is c.mark mark),
-        subst (AreMembers [] ms) (joined-pieces_of (59 ∷ 10 ∷ []) c.before) (members_found [] tt (pieces_of (59 ∷ 10 ∷ []) c.before) ms (pieces_are_cut (59 ∷ 10 ∷ []) c.before) opened),
-        subst IsGap whole is)
+        let opened : members_of [] (pieces_of (59 ∷ 10 ∷ []) c.before) ≡ Some ms = sym (ap (λ t. if t then members_of [] (pieces_of (59 ∷ 10 ∷ []) c.before) else None) f) ∙ read in (
+          c.before,
+          c.after,
+          spelled ∙ ap (λ k. c.before ++ k ∷ c.after) (one_mark 125 c.mark mark),
+          subst (AreMembers [] ms) (joined-pieces_of (59 ∷ 10 ∷ []) c.before) (members_found [] tt (pieces_of (59 ∷ 10 ∷ []) c.before) ms (pieces_are_cut (59 ∷ 10 ∷ []) c.before) opened),
+          subst IsGap whole is,
+        )
     by c spelled mark gap at is false f read = absurd (cc (ap (λ t. if t then members_of [] (pieces_of (59 ∷ 10 ∷ []) c.before) else None) f))
 
 braces_only : (ms : List Member) (body back : List ℕ) → AreMembers [] ms body → IsGap back → in_braces (body ++ 125 ∷ back) ≡ Some ms
@@ -436,8 +413,8 @@ line_end_found (b ∷ bs) e = by (b == 10) (b == 13) (begins_with_line_feed bs) 
     by false true true f g h =
         let (rest, at) = feed_found bs h in
         (13 ∷ 10 ∷ [], rest, ap (λ k. k ∷ bs) (equal_is b 13 g) ∙ ap (λ (xs : List ℕ). 13 ∷ xs) at, inr refl)
-    by false true false f g h = absurd (true_false (sym e ∙ ap (λ s. s || ((b == 13) && begins_with_line_feed bs)) f ∙ ap (λ t. t && begins_with_line_feed bs) g ∙ h))
-    by false false u f g h = absurd (true_false (sym e ∙ ap (λ s. s || ((b == 13) && begins_with_line_feed bs)) f ∙ ap (λ t. t && begins_with_line_feed bs) g))
+    by false true false f g h = absurd (true≢false (sym e ∙ ap (λ s. s || ((b == 13) && begins_with_line_feed bs)) f ∙ ap (λ t. t && begins_with_line_feed bs) g ∙ h))
+    by false false u f g h = absurd (true≢false (sym e ∙ ap (λ s. s || ((b == 13) && begins_with_line_feed bs)) f ∙ ap (λ t. t && begins_with_line_feed bs) g))
 
 line_end_begins : (line_end rest : List ℕ) → IsLineEnd line_end → (after_spaces (line_end ++ rest) ≡ line_end ++ rest) × (begins_with_line_end (line_end ++ rest) ≡ true)
 line_end_begins line_end rest (inl e) = subst (λ (xs : List ℕ). (after_spaces (xs ++ rest) ≡ xs ++ rest) × (begins_with_line_end (xs ++ rest) ≡ true)) (sym e) (refl, refl)
@@ -476,7 +453,7 @@ below_found bytes ms e = by (begins_with_line_end (after_spaces bytes)) refl
         let (body, back, cut_5, body_is, back_is) = braces_found inside ms read in
         let whole : bytes ≡ spaces ++ (line_end ++ rest) = cut_1 ∙ ap (λ (xs : List ℕ). spaces ++ xs) cut_2 in
         let gap_is : after_gap rest ≡ codes "QtObject" ++ named =
-          sym (ap after_gap whole ∙ after_gap-spaces spaces (line_end ++ rest) spaces_is ∙ blank_cut line_end rest (inr line_end_is)) ∙ after_front_found (codes "QtObject") (after_gap bytes) named front in
+        sym (ap after_gap whole ∙ after_gap-spaces spaces (line_end ++ rest) spaces_is ∙ blank_cut line_end rest (inr line_end_is)) ∙ after_front_found (codes "QtObject") (after_gap bytes) named front in
         record {
           spaces = spaces;
           line_end = line_end;
@@ -502,7 +479,7 @@ below_only spaces line_end first second body back ms s l f g b k =
     let rest : List ℕ = first ++ (codes "QtObject" ++ named) in
     let bytes : List ℕ = spaces ++ (line_end ++ rest) in
     let begins : begins_with_line_end (after_spaces bytes) ≡ true =
-      ap begins_with_line_end (after_spaces-append spaces (line_end ++ rest) s ∙ (line_end_begins line_end rest l).0) ∙ (line_end_begins line_end rest l).1 in
+    ap begins_with_line_end (after_spaces-append spaces (line_end ++ rest) s ∙ (line_end_begins line_end rest l).0) ∙ (line_end_begins line_end rest l).1 in
     let gap : after_gap bytes ≡ codes "QtObject" ++ named = after_gap-spaces spaces (line_end ++ rest) s ∙ blank_cut line_end rest (inr l) ∙ after_gap-append first (codes "QtObject" ++ named) f in
     let brace : after_gap named ≡ codes "{" ++ inside = after_gap-append second (123 ∷ inside) g in
     ap (λ t. if t then named_of bytes else None) begins

@@ -1,4 +1,3 @@
-pub mod BlankLemmas
 pub mod BoundLemmas
 pub mod CutLemmas
 pub mod DocumentLemmas

@@ -12,9 +12,6 @@ use Rattle.first_form.specs.Names.{begins_lowercase, is_spelled, is_kept, is_nam
 use Rattle.first_form.proofs.FormLemmas.{IsWord}
 use Rattle.first_form.proofs.MarkLemmas.{Over}
 
-position-nil : {A : Type 0} (p : A → Bool) → position p [] ≡ None
-position-nil p = refl
-
 shift : (l n : ℕ) (b : Bool) → nat_lt l n ≡ b → cond (nat_lt (1 + l) (suc n)) (Some (1 + l)) None ≡ option_map (λ k. suc k) (cond b (Some l) None)
 shift l n true e = let more : nat_lt (1 + l) (suc n) ≡ true = grind (arith, nat_tests) in rw more (ap Some (omega arith))
 shift l n false e = let more : nat_lt (1 + l) (suc n) ≡ false = grind (arith, nat_tests) in rw more refl

@@ -1,5 +1,5 @@
 -- A script is read exactly where it is spelled, and its first bad line is the one that is told.
-use Rattle.std.proofs.Common.{◌≡◌, ◌≢◌, ◌⊎◌, ◌∙◌, ap, sym, refl, subst, ℕ, suc, ◌+◌, ◌-◌, ◌≤◌, ◌<◌, ◌==◌, ◌||◌, arith, nat_le, nat_eq, Bool, true, false, inl, inr, ℤ, pos, neg_ℤ, List, [], ◌∷◌, ◌++◌, length, take, append_assoc, None, Some, if◌then◌else◌, codes}
+use Rattle.std.proofs.Common.{◌≡◌, ◌∙◌, ap, sym, refl, subst, ℕ, suc, ◌+◌, ◌-◌, ◌≤◌, ◌<◌, ◌==◌, ◌||◌, arith, nat_le, nat_eq, Bool, true, false, inl, inr, ℤ, pos, neg_ℤ, List, [], ◌∷◌, ◌++◌, length, take, append_assoc, None, Some, if◌then◌else◌, codes, true≢false}
 use Rattle.std.specs.declared.option.Option.{Option}
 use Rattle.std.specs.declared.result.Result.{Result}
 use Rattle.std.specs.declared.result.Result.TheVariants.{Ok, Err}
@@ -12,33 +12,22 @@ use Rattle.qml_model.specs.declared.text.Deed.{Deed}
 use Rattle.qml_model.specs.declared.text.Deed.TheVariants.{Do, Print}
 use Rattle.qml_model.specs.declared.text.ScriptLine.{ScriptLine}
 use Rattle.first_form.specs.Blanks.{◌>>=◌, without_return, after_front}
-use Rattle.first_form.specs.Forms.{IsNumber, IsCell}
 use Rattle.first_form.specs.Names.{cell_of}
 use Rattle.first_form.specs.Numbers.{number_of}
-use Rattle.first_form.specs.Pieces.{is_mark, Cut, cut_of, Pieces, last, piece, pieces_of}
+use Rattle.first_form.specs.Pieces.{Cut, cut_of, Pieces, last, piece, pieces_of}
 use Rattle.first_form.specs.Script.{signed_of, assigned_in, done_by, printed_by, deed_of, is_skipped, onto_lines, with_deed, with_line, script_from, script_of}
-use Rattle.first_form.specs.ScriptForm.{Lacks, EndsInReturn, IsEnded, AreLines, IsSigned, Asks, AsksAll, IsScript, IsFirstBad}
+use Rattle.first_form.specs.ScriptForm.{Lacks, IsEnded, AreLines, IsSigned, Asks, AsksAll, IsScript, IsFirstBad}
 use Rattle.first_form.specs.Values.{first_of}
 use Rattle.first_form.proofs.DocumentLemmas.{after_front_found, after_front_only, ends_return, without_return-other, without_return-return}
 use Rattle.first_form.proofs.FormLemmas.{is_equal, equal_is, not_equal, other_is}
-use Rattle.first_form.proofs.MarkLemmas.{Clean, Clean-append, cut_found, cut_of-mark, joined, AreCut, joined-pieces_of, pieces_are_cut, pieces_of-mark, pieces_of-clean}
+use Rattle.first_form.proofs.MarkLemmas.{one_mark, Clean, Clean-append, cut_found, cut_of-mark, joined, AreCut, joined-pieces_of, pieces_are_cut, pieces_of-mark, pieces_of-clean}
 use Rattle.first_form.proofs.NameLemmas.{cell_found, cell_only, and_left}
 use Rattle.first_form.proofs.NumberLemmas.{number_found, number_only, number_digits}
 use Rattle.first_form.proofs.ValueLemmas.{bind_some, map_some}
 
-true_false : true ≡ false → ⊥
-true_false e = cc
-
-one_mark : (m b : ℕ) → is_mark (m ∷ []) b ≡ true → b ≡ m
-one_mark m b e = by (m == b) refl
-  where
-    by : (t : Bool) → (m == b) ≡ t → b ≡ m
-    by true f = sym (equal_is m b f)
-    by false f = absurd (true_false (sym e ∙ ap (λ t. t || false) f))
-
 clean_lacks : (m : ℕ) (bs : List ℕ) → Clean (m ∷ []) bs → Lacks m bs
 clean_lacks m [] h = tt
-clean_lacks m (b ∷ bs) h = ((λ e. true_false (sym (ap (λ t. t || false) (is_equal m b (sym e))) ∙ h.0)), clean_lacks m bs h.1)
+clean_lacks m (b ∷ bs) h = ((λ e. true≢false (sym (ap (λ t. t || false) (is_equal m b (sym e))) ∙ h.0)), clean_lacks m bs h.1)
 
 lacks_clean : (m : ℕ) (bs : List ℕ) → Lacks m bs → Clean (m ∷ []) bs
 lacks_clean m [] h = tt
@@ -60,13 +49,14 @@ ended_by line lacks = by (ends_with nat_eq line (13 ∷ [])) refl
     by true f =
         let whole : line ≡ take (length line - 1) line ++ 13 ∷ [] = (ends_return line).0 f in
         let alone : without_return line ≡ take (length line - 1) line = ap (λ t. if t then take (length line - 1) line else line) f in
-        subst (λ (w : List ℕ). IsEnded w (line ++ 10 ∷ [])) (sym alone)
-        (lacks_front 10 (take (length line - 1) line) (13 ∷ []) (subst (Lacks 10) whole lacks),
-        inl (ap (λ (w : List ℕ). w ++ 10 ∷ []) whole ∙ append_assoc (take (length line - 1) line) (13 ∷ []) (10 ∷ [])))
+        subst (λ (w : List ℕ). IsEnded w (line ++ 10 ∷ [])) (sym alone) (
+          lacks_front 10 (take (length line - 1) line) (13 ∷ []) (subst (Lacks 10) whole lacks),
+          inl (ap (λ (w : List ℕ). w ++ 10 ∷ []) whole ∙ append_assoc (take (length line - 1) line) (13 ∷ []) (10 ∷ [])),
+        )
     by false f =
         let alone : without_return line ≡ line = ap (λ t. if t then take (length line - 1) line else line) f in
         subst (λ (w : List ℕ). IsEnded w (line ++ 10 ∷ [])) (sym alone)
-        (lacks, inr (refl, λ (front, e). true_false (sym ((ends_return line).1 front e) ∙ f)))
+        (lacks, inr (refl, λ (front, e). true≢false (sym ((ends_return line).1 front e) ∙ f)))
 
 longer : (line ended rest : List ℕ) (lines : List (List ℕ)) → IsEnded line ended → AreLines lines rest → AreLines (line ∷ lines) (ended ++ rest)
 longer line ended rest [] is are = absurd are
@@ -96,7 +86,7 @@ lines_only (line ∷ next ∷ lines) bytes (ended, rest, spelled, (lacks, inr (e
 
 -- ---- what a line asks for
 digit_is_no_minus : (b : ℕ) → is_ascii_digit b ≡ true → (b == 45) ≡ false
-digit_is_no_minus b e = not_equal b 45 (λ same. true_false (sym e ∙ ap is_ascii_digit same))
+digit_is_no_minus b e = not_equal b 45 (λ same. true≢false (sym e ∙ ap is_ascii_digit same))
 
 signed_found : (bytes : List ℕ) (z : ℤ) → signed_of bytes ≡ Some z → IsSigned z bytes
 signed_found [] z e = absurd (cc)
@@ -142,7 +132,7 @@ done_found names line deed e =
     let (z, read, is) = map_some (signed_of number) (Do cell) deed then_number in
     let (spelled, mark, clean) = cut_found (32 ∷ []) rest c cut in
     let whole : line ≡ codes "do " ++ (c.before ++ (codes " = " ++ number)) =
-      after_front_found (codes "do ") line rest front ∙ ap (λ (xs : List ℕ). codes "do " ++ xs) (spelled ∙ ap (λ k. c.before ++ k ∷ c.after) (one_mark 32 c.mark mark) ∙ ap (λ (xs : List ℕ). c.before ++ 32 ∷ xs) (after_front_found (codes "= ") c.after number sign)) in
+    after_front_found (codes "do ") line rest front ∙ ap (λ (xs : List ℕ). codes "do " ++ xs) (spelled ∙ ap (λ k. c.before ++ k ∷ c.after) (one_mark 32 c.mark mark) ∙ ap (λ (xs : List ℕ). c.before ++ 32 ∷ xs) (after_front_found (codes "= ") c.after number sign)) in
     subst (λ (d : Deed). Asks names d line) is (c.before, number, whole, clean_lacks 32 c.before clean, cell_found names c.before cell named, signed_found number z read)
 
 deed_found : (names : List (List ℕ)) (line : List ℕ) (deed : Deed) → deed_of names line ≡ Some deed → Asks names deed line
@@ -314,8 +304,12 @@ unfolding script_of
 script_found names bytes read e = by (nat_le (length bytes) 4194304) refl
   where
     by : (t : Bool) → nat_le (length bytes) 4194304 ≡ t → IsScript names read bytes
-    by true f = (few_from bytes f, texts_of (pieces_of (10 ∷ []) bytes), lines_found bytes,
-        ok_found names (texts_of (pieces_of (10 ∷ []) bytes)) 1 read (sym (ap (λ t. if t then read_all names bytes else Err 0) f ∙ by_texts names bytes) ∙ e))
+    by true f = (
+      few_from bytes f,
+      texts_of (pieces_of (10 ∷ []) bytes),
+      lines_found bytes,
+      ok_found names (texts_of (pieces_of (10 ∷ []) bytes)) 1 read (sym (ap (λ t. if t then read_all names bytes else Err 0) f ∙ by_texts names bytes) ∙ e),
+    )
     by false f = absurd (cc (ap (λ t. if t then read_all names bytes else Err 0) f))
 
 pub script_only : (names : List (List ℕ)) (bytes : List ℕ) (read : List ScriptLine) → IsScript names read bytes → script_of names bytes ≡ Ok read

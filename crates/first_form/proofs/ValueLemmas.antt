@@ -1,5 +1,5 @@
 -- A value is read exactly where it is spelled.
-use Rattle.std.proofs.Common.{◌≡◌, ◌≢◌, ◌∙◌, ap, sym, refl, subst, ℕ, suc, zero, ◌+◌, ◌<◌, ◌≤◌, ◌==◌, ◌||◌, arith, nat_lt, Bool, true, false, inl, inr, ℤ, pos, neg_ℤ, List, [], ◌∷◌, ◌++◌, length, slice_get, None, Some, if◌then◌else◌, count_by}
+use Rattle.std.proofs.Common.{◌≡◌, ◌≢◌, ◌∙◌, ap, sym, refl, subst, ℕ, suc, zero, ◌+◌, ◌<◌, ◌≤◌, ◌==◌, arith, nat_lt, Bool, true, false, inl, inr, ℤ, pos, neg_ℤ, List, [], ◌∷◌, ◌++◌, length, slice_get, None, Some, if◌then◌else◌, count_by}
 use Rattle.std.specs.declared.option.Option.{Option}
 use Rattle.std.specs.Option.{option_map}
 use Rattle.std.specs.Str.{all_ascii_digits}
@@ -18,7 +18,7 @@ use Rattle.first_form.specs.Numbers.{number_of}
 use Rattle.first_form.specs.Pieces.{is_mark, Pieces, last, piece, pieces_of}
 use Rattle.first_form.specs.Values.{or_cell, factor_named, operand_of, factors_of, product_of, products_of, sum_of, number_in, negative_in, first_of, plain_of, content_of}
 use Rattle.first_form.proofs.FormLemmas.{IsWord, lone_found, lone_only, equal_is, after_spaces-append, after_spaces-front}
-use Rattle.first_form.proofs.MarkLemmas.{over, Over, Over-append, Over-more, over_clean, joined, AreCut, joined-pieces_of, pieces_are_cut, pieces_of-mark, pieces_of-clean, count_by-clean, count_by-append, count_by-mark}
+use Rattle.first_form.proofs.MarkLemmas.{one_mark, over, Over, Over-append, Over-more, over_clean, joined, AreCut, joined-pieces_of, pieces_are_cut, pieces_of-mark, pieces_of-clean, count_by-clean, count_by-append, count_by-mark}
 use Rattle.first_form.proofs.NameLemmas.{cell_found, cell_only, name_word, name_over, name_some, number_word, number_over, name_no_digits}
 use Rattle.first_form.proofs.NumberLemmas.{number_found, number_only, number_digits, number_some}
 
@@ -114,13 +114,6 @@ factors_only names (f ∷ g ∷ fs) bytes (left, right, spelled, is, rest) =
     ∙ ap (λ (o : Option Factor). o >>= λ h. option_map (λ hs. h ∷ hs) (factors_of names (pieces_of (42 ∷ []) right))) (operand_only names left f is)
     ∙ ap (option_map (λ hs. f ∷ hs)) (factors_only names (g ∷ fs) right rest)
 
-one_mark : (m b : ℕ) → is_mark (m ∷ []) b ≡ true → b ≡ m
-one_mark m b e = by (m == b) refl
-  where
-    by : (t : Bool) → (m == b) ≡ t → b ≡ m
-    by true f = sym (equal_is m b f)
-    by false f = absurd (cc (ap (λ t. t || false) f))
-
 factors_found : (names : List (List ℕ)) → AreNames names → (ps : Pieces) (fs : List Factor) → AreCut (42 ∷ []) ps → factors_of names ps ≡ Some fs → IsProduct names fs (joined ps)
 factors_found names are (last bytes) fs cut e =
     let (f, is, same) = map_some (operand_of names bytes) (λ f. f ∷ []) fs e in
@@ -138,9 +131,10 @@ factors_found names are (piece bytes mark rest) fs (marked, clean, cut) e =
 
 product_found : (names : List (List ℕ)) → AreNames names → (minus : Bool) (bytes : List ℕ) (p : Product) → product_of names minus bytes ≡ Some p → (p.minus ≡ minus) × IsProduct names p.factors bytes
 product_found names are minus bytes p e =
-    let (fs, is, same) = map_some (factors_of names (pieces_of (42 ∷ []) bytes)) (λ fs. record { minus = minus; factors = fs }) p e in
-    (ap (λ (p : Product). p.minus) (sym same),
-    subst (λ (p : Product). IsProduct names p.factors bytes) same (subst (IsProduct names fs) (joined-pieces_of (42 ∷ []) bytes) (factors_found names are (pieces_of (42 ∷ []) bytes) fs (pieces_are_cut (42 ∷ []) bytes) is)))
+    let (fs, is, same) = map_some (factors_of names (pieces_of (42 ∷ []) bytes)) (λ fs. record { minus = minus; factors = fs }) p e in (
+      ap (λ (p : Product). p.minus) (sym same),
+      subst (λ (p : Product). IsProduct names p.factors bytes) same (subst (IsProduct names fs) (joined-pieces_of (42 ∷ []) bytes) (factors_found names are (pieces_of (42 ∷ []) bytes) fs (pieces_are_cut (42 ∷ []) bytes) is)),
+    )
 
 product_only : (names : List (List ℕ)) (p : Product) (bytes : List ℕ) → IsProduct names p.factors bytes → product_of names p.minus bytes ≡ Some p
 product_only names p bytes is = ap (option_map (λ fs. record { minus = p.minus; factors = fs })) (factors_only names p.factors bytes is)

@@ -45,4 +45,4 @@ IsScript names read bytes = (length bytes ≤ 4194304) × (lines : List (List �
 abbrev pub IsFirstBad : List (List ℕ) → ℕ → List ℕ → Type 0
 IsFirstBad names n bytes = ((n ≡ 0) × (4194304 < length bytes))
     ⊎ ((length bytes ≤ 4194304) × (before : List (List ℕ)) × (bad : List ℕ) × (after : List (List ℕ)) × (read : List ScriptLine)
-      × AreLines (before ++ bad ∷ after) bytes × AsksAll names read before × (n ≡ length before + 1) × (is_skipped bad ≡ false) × ((deed : Deed) → Asks names deed bad → ⊥))
+    × AreLines (before ++ bad ∷ after) bytes × AsksAll names read before × (n ≡ length before + 1) × (is_skipped bad ≡ false) × ((deed : Deed) → Asks names deed bad → ⊥))

@@ -11,6 +11,8 @@ mod names;
 mod numbers;
 mod pieces;
 mod script;
+#[cfg(test)]
+mod tests;
 mod values;
 
 pub use document::{LARGEST, read_document};
