@@ -169,8 +169,9 @@ fn object_under(alloc: Global, bytes: &[u8]) -> Result<Option<Program>, AllocErr
     }
 }
 
-/// The members of the root, where the bytes are a document of this form: None says that they are not.
-/// Numbers are at most 2^53, and each member reads only members before it.
+/// The members of the root, where the bytes are a document of this form (specs/DocumentForm); None says that they are not.
+/// Numbers are at most 2^53, and each member reads only members before it. Want of memory is the only error.
+/// Qt 5.15, "QML Documents", and "QML Object Attributes", Defining Property Attributes.
 #[tactic(auto, unfolding(crate::specs::Document::program_of))]
 pub fn read_document(alloc: Global, bytes: &[u8]) -> Result<Option<Program>, AllocError>
     ensures exact { IfOk result (λ found. found ≡ program_of bytes.now) }

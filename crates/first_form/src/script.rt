@@ -152,7 +152,8 @@ fn script_lines(
     }
 }
 
-/// The lines of a script with what each asks for, or the number, from 1 on, of the first that is neither left out nor of the form.
+/// The lines of a script with what each asks for (specs/ScriptForm), or the number, from 1 on, of the first that is neither left out
+/// nor of the form. Want of memory is the only error.
 /// Each cell is one of a member, and each number at most 2^53.
 /// A script of more than `LARGEST` bytes is refused as line 0.
 #[tactic(auto, unfolding(crate::specs::Script::script_of))]
