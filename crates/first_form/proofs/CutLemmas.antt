@@ -1,8 +1,7 @@
 -- How a cut goes on over bytes that are no marks, and what pieces a cut leaves.
-use Rattle.std.proofs.Common.{◌≡◌, ◌∙◌, ap, sym, refl, ℕ, ◌<◌, ◌≤◌, ◌+◌, ◌-◌, arith, true, false, List, [], ◌∷◌, ◌++◌, take, drop, length, add-one, get_or, Bool}
-use Rattle.std.proofs.Math.Seq.{drop-cons}
+use Rattle.std.proofs.Common.{◌≡◌, ◌∙◌, ap, sym, refl, ℕ, ◌<◌, ◌≤◌, ◌+◌, ◌-◌, arith, true, false, List, [], ◌∷◌, ◌++◌, take, drop, length, get_or, Bool, append-nil}
 use Rattle.std.proofs.lemmas.Grind.{common_steps}
-use Rattle.std.proofs.lemmas.List.{take_more, take_rest}
+use Rattle.std.proofs.lemmas.List.{drop_more, take_more, take_rest}
 use Rattle.std.specs.declared.option.Option.{Option}
 use Rattle.std.specs.declared.option.Option.TheVariants.{None, Some}
 use Rattle.std.specs.Option.{option_map}
@@ -26,7 +25,7 @@ behind-none [] = refl
 behind-none (b ∷ bs) = ap (option_map (ahead_of_cut b)) (behind-none bs)
 
 here : (marks bytes : List ℕ) (i : ℕ) → i < length bytes → cut_of marks (drop i bytes) ≡ cut_of marks (get_or bytes i 0 ∷ drop (i + 1) bytes)
-here marks bytes i h = ap (cut_of marks) (drop-cons bytes i 0 h ∙ ap (λ k. get_or bytes i 0 ∷ drop k bytes) (sym (add-one i)))
+here marks bytes i h = ap (cut_of marks) (drop_more bytes i 0 h)
 
 not_here : (marks : List ℕ) (b : ℕ) (bs : List ℕ) → is_mark marks b ≡ false → option_map (ahead_of_cut b) (cut_of marks bs) ≡ cut_of marks (b ∷ bs)
 not_here marks b bs e = rw e refl
@@ -40,16 +39,12 @@ no_mark marks bytes i h e =
 here_is : (marks : List ℕ) (b : ℕ) (bs : List ℕ) → is_mark marks b ≡ true → cut_of marks (b ∷ bs) ≡ Some (record { before = []; mark = b; after = bs })
 here_is marks b bs e = rw e refl
 
-append-none : (bs : List ℕ) → bs ++ [] ≡ bs
-append-none [] = refl
-append-none (b ∷ bs) = ap (λ (rest : List ℕ). b ∷ rest) (append-none bs)
-
 pub at_mark : (marks bytes : List ℕ) (i : ℕ) → i < length bytes → is_mark marks (get_or bytes i 0) ≡ true
     → behind (take i bytes) (cut_of marks (drop i bytes)) ≡ Some (record { before = take i bytes; mark = get_or bytes i 0; after = drop (i + 1) bytes })
 at_mark marks bytes i h e =
     ap (behind (take i bytes)) (here marks bytes i h ∙ here_is marks (get_or bytes i 0) (drop (i + 1) bytes) e)
     ∙ behind-some (take i bytes) (record { before = []; mark = get_or bytes i 0; after = drop (i + 1) bytes })
-    ∙ ap (λ (before : List ℕ). Some (record { before = before; mark = get_or bytes i 0; after = drop (i + 1) bytes })) (append-none (take i bytes))
+    ∙ ap (λ (before : List ℕ). Some (record { before = before; mark = get_or bytes i 0; after = drop (i + 1) bytes })) (append-nil (take i bytes))
 
 -- ---- pieces
 -- what a cut says of the pieces

@@ -1,8 +1,7 @@
 -- Spaces, words and gaps are cut off exactly where they stand.
-use Rattle.std.proofs.Common.{◌≡◌, ◌≢◌, ◌∙◌, ap, sym, refl, subst, ℕ, ◌==◌, ◌||◌, ◌&&◌, arith, Bool, true, false, inl, inr, List, [], ◌∷◌, ◌++◌, append_assoc, append-nil, None, Some, if◌then◌else◌}
-use Rattle.std.specs.declared.option.Option.{Option}
+use Rattle.std.proofs.Common.{◌≡◌, ◌≢◌, ◌∙◌, ap, sym, refl, subst, ℕ, ◌==◌, ◌||◌, ◌&&◌, arith, Bool, true, false, inl, inr, List, [], ◌∷◌, ◌++◌, append_assoc, None, Some, if◌then◌else◌}
 use Rattle.first_form.specs.Blanks.{is_spaces, after_spaces, word_of, behind_word, lone_word, begins_with_line_feed, begins_with_line_end, after_gap}
-use Rattle.first_form.specs.Forms.{IsSpaces, IsLineEnd, IsBlank, AreBlanks, IsGap, IsPadded}
+use Rattle.first_form.specs.Forms.{IsSpaces, IsBlank, AreBlanks, IsGap, IsPadded}
 
 pub is_equal : (a b : ℕ) → a ≡ b → (a == b) ≡ true
 is_equal a b h = grind arith
@@ -83,10 +82,6 @@ pub spaces_begin : (bs : List ℕ) → IsSpaces bs → BeginsSpace bs
 spaces_begin [] h = tt
 spaces_begin (b ∷ bs) h = h.0
 
-word_begins : (w rest : List ℕ) → IsWord w → BeginsNoSpace rest → BeginsNoSpace (w ++ rest)
-word_begins [] rest h k = k
-word_begins (b ∷ bs) rest h k = h.0
-
 pub lone_found : (bs word : List ℕ) → lone_word bs ≡ Some word → IsPadded (λ w. w ≡ word) bs
 lone_found bs word e = by (is_spaces (behind_word (after_spaces bs))) refl (after_spaces-front bs)
   where
@@ -96,13 +91,13 @@ lone_found bs word e = by (is_spaces (behind_word (after_spaces bs))) refl (afte
         (front, word_of (after_spaces bs), behind_word (after_spaces bs), at ∙ ap (λ (rest : List ℕ). front ++ rest) (word_cut (after_spaces bs)), spaces, word_is, spaces_found (behind_word (after_spaces bs)) f)
     by false f it = absurd (cc (ap (λ t. if t then Some (word_of (after_spaces bs)) else None) f))
 
-begins_word : (w back : List ℕ) → IsWord w → IsSpaces back → w ≢ [] → BeginsNoSpace (w ++ back)
-begins_word [] back h k n = absurd (n refl)
-begins_word (b ∷ bs) back h k n = h.0
+pub word_starts : (w rest : List ℕ) → IsWord w → w ≢ [] → BeginsNoSpace (w ++ rest)
+word_starts [] rest h n = absurd (n refl)
+word_starts (b ∷ bs) rest h n = h.0
 
 pub lone_only : (front word back : List ℕ) → IsSpaces front → IsWord word → word ≢ [] → IsSpaces back → lone_word (front ++ (word ++ back)) ≡ Some word
 lone_only front word back f w n b =
-    let at : after_spaces (front ++ (word ++ back)) ≡ word ++ back = after_spaces-append front (word ++ back) f ∙ after_spaces-other (word ++ back) (begins_word word back w b n) in
+    let at : after_spaces (front ++ (word ++ back)) ≡ word ++ back = after_spaces-append front (word ++ back) f ∙ after_spaces-other (word ++ back) (word_starts word back w n) in
     let word_is : word_of (after_spaces (front ++ (word ++ back))) ≡ word = ap word_of at ∙ word_of-append word back w (spaces_begin back b) in
     let rest_is : is_spaces (behind_word (after_spaces (front ++ (word ++ back)))) ≡ true = ap (λ (xs : List ℕ). is_spaces (behind_word xs)) at ∙ ap is_spaces (behind_word-append word back w (spaces_begin back b)) ∙ spaces_only back b in
     ap (λ t. if t then Some (word_of (after_spaces (front ++ (word ++ back)))) else None) rest_is ∙ ap Some word_is

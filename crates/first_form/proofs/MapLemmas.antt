@@ -1,5 +1,6 @@
 -- Members as they lie in a map, by name.
-use Rattle.std.proofs.Common.{◌≡◌, ◌∙◌, ap, sym, refl, ℕ, Bool, false, not, is_some, List, [], ◌∷◌, ◌++◌, map, length, position}
+use Rattle.std.proofs.Common.{◌≡◌, ◌∙◌, ap, sym, refl, ℕ, Bool, false, not, is_some, List, [], ◌∷◌, ◌++◌, map, position}
+use Rattle.std.proofs.lemmas.List.{length-map}
 use Rattle.std.specs.declared.alloc.Global.{Global}
 use Rattle.std.specs.declared.vec.Vec.{Vec}
 use Rattle.std.specs.declared.option.Option.{Option}
@@ -21,12 +22,8 @@ prefix_len-map : {A B : Type 0} (f : A → B) (p : B → Bool) (xs : List A) →
 prefix_len-map f p [] = refl
 prefix_len-map f p (x ∷ xs) = rw (prefix_len-map f p xs) refl
 
-length-of-map : {A B : Type 0} (f : A → B) (xs : List A) → length (map f xs) ≡ length xs
-length-of-map f [] = refl
-length-of-map f (x ∷ xs) = rw (length-of-map f xs) refl
-
 position-map : {A B : Type 0} (f : A → B) (p : B → Bool) (xs : List A) → position p (map f xs) ≡ position (λ x. p (f x)) xs
-position-map f p xs = rw (prefix_len-map f (λ x. not (p x)) xs, length-of-map f xs) refl
+position-map f p xs = rw (prefix_len-map f (λ x. not (p x)) xs, length-map xs f) refl
 
 names_are : (es : Entries) → names_of (map member_from es) ≡ map (λ (k : Vec ℕ Global). k.items) (keys_of es)
 names_are [] = refl
@@ -35,7 +32,7 @@ names_are (e ∷ es) = ap (λ (ns : List (List ℕ)). e.0.items ∷ ns) (names_a
 pub cell_of-entries : (es : Entries) (name : List ℕ) → position (λ (k : Vec ℕ Global). bytes_eq name k.items) (keys_of es) ≡ cell_of (names_of (map member_from es)) name
 cell_of-entries es name = sym (position-map (λ (k : Vec ℕ Global). k.items) (λ n. bytes_eq name n) (keys_of es)) ∙ ap (λ ns. cell_of ns name) (sym (names_are es))
 
-is_none_of : {A : Type 0} (o : Option A) → is_some o ≡ false → o ≡ None
+pub is_none_of : {A : Type 0} (o : Option A) → is_some o ≡ false → o ≡ None
 is_none_of None e = refl
 is_none_of (Some x) e = absurd (cc)
 

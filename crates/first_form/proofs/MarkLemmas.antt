@@ -1,5 +1,5 @@
 -- Pieces and cuts are exactly what stands between marks.
-use Rattle.std.proofs.Common.{◌≡◌, ◌≢◌, ◌∙◌, ap, sym, refl, subst, ℕ, ◌+◌, ◌==◌, ◌||◌, ◌&&◌, not, arith, Bool, true, false, List, [], ◌∷◌, ◌++◌, append_assoc, None, Some, if◌then◌else◌, count_by}
+use Rattle.std.proofs.Common.{◌≡◌, ◌∙◌, ap, sym, refl, subst, ℕ, ◌+◌, ◌==◌, ◌||◌, ◌&&◌, not, arith, Bool, true, false, List, [], ◌∷◌, ◌++◌, None, Some, if◌then◌else◌, count_by, true≢false}
 use Rattle.std.specs.declared.option.Option.{Option}
 use Rattle.std.specs.Option.{option_map}
 use Rattle.std.specs.Char.{is_ascii_alphanumeric}
@@ -7,6 +7,14 @@ use Rattle.std.specs.List.{list_all}
 use Rattle.std.proofs.lemmas.Grind.{common_steps}
 use Rattle.first_form.specs.Pieces.{is_mark, Cut, ahead_of_cut, cut_of, Pieces, last, piece, ahead, pieces_of}
 use Rattle.first_form.proofs.FormLemmas.{equal_is}
+
+-- where there is one mark
+pub one_mark : (m b : ℕ) → is_mark (m ∷ []) b ≡ true → b ≡ m
+one_mark m b e = by (m == b) refl
+  where
+    by : (t : Bool) → (m == b) ≡ t → b ≡ m
+    by true f = sym (equal_is m b f)
+    by false f = absurd (true≢false (sym e ∙ ap (λ t. t || false) f))
 
 -- none of the marks stands in it
 abbrev pub Clean : List ℕ → List ℕ → Type 0
@@ -101,14 +109,6 @@ Over extra (b ∷ bs) = (over extra b ≡ true) × Over extra bs
 pub Over-append : (extra a b : List ℕ) → Over extra a → Over extra b → Over extra (a ++ b)
 Over-append extra [] b h k = k
 Over-append extra (x ∷ a) b (e, h) k = (e, Over-append extra a b h k)
-
-true_right : (a b : Bool) → b ≡ true → (a || b) ≡ true
-true_right true b e = refl
-true_right false b e = e
-
-true_left : (a b : Bool) → a ≡ true → (a || b) ≡ true
-true_left true b e = refl
-true_left false b e = absurd (cc)
 
 or_cases : (a b c d : Bool) → (a || (b || c)) ≡ true → (c ≡ true → d ≡ true) → (a || (b || d)) ≡ true
 or_cases true b c d e f = refl

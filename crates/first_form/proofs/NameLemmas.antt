@@ -1,21 +1,16 @@
 -- Cells go by the first of their names, and names are words of letters and digits.
-use Rattle.std.proofs.Common.{◌≡◌, ◌≢◌, ◌∙◌, ap, sym, refl, subst, ℕ, suc, zero, ◌+◌, ◌<◌, ◌≤◌, ◌==◌, ◌||◌, ◌&&◌, not, is_some, nat_lt, arith, Bool, true, false, List, [], ◌∷◌, ◌++◌, length, position, slice_get, None, Some, if◌then◌else◌, cond}
+use Rattle.std.proofs.Common.{◌≡◌, ◌≢◌, ◌∙◌, ap, sym, refl, subst, ℕ, suc, zero, ◌+◌, ◌<◌, ◌==◌, ◌||◌, ◌&&◌, not, nat_lt, arith, Bool, true, false, List, [], ◌∷◌, length, position, slice_get, None, Some, if◌then◌else◌, cond}
 use Rattle.std.specs.declared.option.Option.{Option}
 use Rattle.std.specs.Option.{option_map}
 use Rattle.std.specs.Char.{is_ascii_alphanumeric, is_ascii_lowercase, is_ascii_digit}
 use Rattle.std.specs.List.{list_all, prefix_len}
 use Rattle.std.specs.Str.{bytes_eq, all_ascii_digits}
 use Rattle.std.proofs.lemmas.Bool.Decides.{nat_tests}
-use Rattle.std.proofs.lemmas.Grind.{common_steps}
 use Rattle.std.proofs.lemmas.Slice.Eq.{bytes_eq-Decides}
-use Rattle.first_form.specs.Forms.{IsCell, IsNumber}
-use Rattle.first_form.specs.Names.{begins_lowercase, is_spelled, is_kept, is_name, cell_of, is_new_name}
-use Rattle.first_form.specs.Numbers.{number_of}
+use Rattle.first_form.specs.Forms.{IsCell}
+use Rattle.first_form.specs.Names.{begins_lowercase, is_spelled, is_kept, is_name, cell_of}
 use Rattle.first_form.proofs.FormLemmas.{IsWord}
-use Rattle.first_form.proofs.MarkLemmas.{over, Over}
-
-position-nil : {A : Type 0} (p : A → Bool) → position p [] ≡ None
-position-nil p = refl
+use Rattle.first_form.proofs.MarkLemmas.{Over}
 
 shift : (l n : ℕ) (b : Bool) → nat_lt l n ≡ b → cond (nat_lt (1 + l) (suc n)) (Some (1 + l)) None ≡ option_map (λ k. suc k) (cond b (Some l) None)
 shift l n true e = let more : nat_lt (1 + l) (suc n) ≡ true = grind (arith, nat_tests) in rw more (ap Some (omega arith))
@@ -91,11 +86,11 @@ cell_missing names w n = by (cell_of names w) refl
     by (Some c) e = absurd (n c (cell_found names w c e).0)
 
 -- ---- names
-and_left : (a b : Bool) → (a && b) ≡ true → a ≡ true
+pub and_left : (a b : Bool) → (a && b) ≡ true → a ≡ true
 and_left true b e = refl
 and_left false b e = e
 
-and_right : (a b : Bool) → (a && b) ≡ true → b ≡ true
+pub and_right : (a b : Bool) → (a && b) ≡ true → b ≡ true
 and_right true b e = e
 and_right false b e = absurd (cc)
 
@@ -106,11 +101,11 @@ spelled_of w e = and_left (is_spelled w) (not (is_kept w)) e
 not_space : (b : ℕ) → is_ascii_alphanumeric b ≡ true → b ≢ 32
 not_space b e same = cc (ap is_ascii_alphanumeric same)
 
-letters_word : (w : List ℕ) → list_all is_ascii_alphanumeric w ≡ true → IsWord w
+pub letters_word : (w : List ℕ) → list_all is_ascii_alphanumeric w ≡ true → IsWord w
 letters_word [] e = tt
 letters_word (b ∷ bs) e = (not_space b (and_left (is_ascii_alphanumeric b) (list_all is_ascii_alphanumeric bs) e), letters_word bs (and_right (is_ascii_alphanumeric b) (list_all is_ascii_alphanumeric bs) e))
 
-letters_over : (w : List ℕ) → list_all is_ascii_alphanumeric w ≡ true → Over [] w
+pub letters_over : (w : List ℕ) → list_all is_ascii_alphanumeric w ≡ true → Over [] w
 letters_over [] e = tt
 letters_over (b ∷ bs) e = (ap (λ t. t || ((b == 32) || false)) (and_left (is_ascii_alphanumeric b) (list_all is_ascii_alphanumeric bs) e), letters_over bs (and_right (is_ascii_alphanumeric b) (list_all is_ascii_alphanumeric bs) e))
 

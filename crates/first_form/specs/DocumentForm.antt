@@ -1,5 +1,5 @@
 -- What text is a document of this form: its parts, one after another.
-use Rattle.std.specs.Prelude.{◌≡◌, ◌≢◌, ◌⊎◌, ℕ, ◌<◌, ◌≤◌, ℤ, pos, neg_ℤ, Bool, true, false, List, [], ◌∷◌, ◌++◌, length, sum_by, Some, slice_get, codes}
+use Rattle.std.specs.Prelude.{◌≡◌, ◌≢◌, ◌⊎◌, ℕ, ◌≤◌, ℤ, pos, neg_ℤ, Bool, true, false, List, [], ◌∷◌, ◌++◌, length, sum_by, Some, slice_get, codes}
 use Rattle.qml_model.specs.declared.content.Factor.{Factor}
 use Rattle.qml_model.specs.declared.content.Factor.TheVariants.{Num, Cell}
 use Rattle.qml_model.specs.declared.content.Product.{Product}

@@ -1,4 +1,5 @@
 pub mod Blanks
+pub mod Bounds
 pub mod Document
 pub mod DocumentForm
 pub mod Forms

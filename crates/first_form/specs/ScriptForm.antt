@@ -1,10 +1,9 @@
 -- What text is a script of this form: its lines, one after another.
 use Rattle.std.specs.Prelude.{◌≡◌, ◌≢◌, ◌⊎◌, ℕ, ◌+◌, ◌<◌, ◌≤◌, ℤ, pos, neg_ℤ, true, false, List, [], ◌∷◌, ◌++◌, length, codes}
-use Rattle.std.specs.List.{list_any}
 use Rattle.qml_model.specs.declared.text.Deed.{Deed}
 use Rattle.qml_model.specs.declared.text.Deed.TheVariants.{Do, Print}
 use Rattle.qml_model.specs.declared.text.ScriptLine.{ScriptLine}
-use Rattle.first_form.specs.Forms.{IsLineEnd, IsNumber, IsCell}
+use Rattle.first_form.specs.Forms.{IsNumber, IsCell}
 use Rattle.first_form.specs.Script.{is_skipped}
 
 -- this byte doesn't stand in the text
@@ -46,4 +45,4 @@ IsScript names read bytes = (length bytes ≤ 4194304) × (lines : List (List �
 abbrev pub IsFirstBad : List (List ℕ) → ℕ → List ℕ → Type 0
 IsFirstBad names n bytes = ((n ≡ 0) × (4194304 < length bytes))
     ⊎ ((length bytes ≤ 4194304) × (before : List (List ℕ)) × (bad : List ℕ) × (after : List (List ℕ)) × (read : List ScriptLine)
-      × AreLines (before ++ bad ∷ after) bytes × AsksAll names read before × (n ≡ length before + 1) × (is_skipped bad ≡ false) × ((deed : Deed) → Asks names deed bad → ⊥))
+    × AreLines (before ++ bad ∷ after) bytes × AsksAll names read before × (n ≡ length before + 1) × (is_skipped bad ≡ false) × ((deed : Deed) → Asks names deed bad → ⊥))

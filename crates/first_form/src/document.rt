@@ -1,6 +1,7 @@
 //! Documents of one object with whole numbers.
-ghost use Rattle.std.specs.Prelude.{◌≡◌, ◌^◌, ◌<◌, ◌≤◌, ◌+◌, [], ◌∷◌, length, IfOk, OnOk};
+ghost use Rattle.std.specs.Prelude.{◌≡◌, ◌^◌, ◌<◌, ◌≤◌, ◌+◌, [], ◌∷◌, length, IfOk, IfSome, OnOk};
 ghost use Rattle.std.specs.Option.{option_map};
+ghost use Rattle.first_form.specs.Bounds.{AreInOrder};
 ghost use Rattle.first_form.specs.Document.{after_word, declared_name, with_value, member_of, names_of, members_in, members_at, members_of, in_braces, object_below, program_of};
 ghost use Rattle.first_form.specs.Names.{is_new_name};
 ghost use Rattle.first_form.specs.Pieces.{pieces_of};
@@ -168,10 +169,13 @@ fn object_under(alloc: Global, bytes: &[u8]) -> Result<Option<Program>, AllocErr
     }
 }
 
-/// The members of the root, where the bytes are a document of this form: None says that they are not.
+/// The members of the root, where the bytes are a document of this form (specs/DocumentForm); None says that they are not.
+/// Numbers are at most 2^53, and each member reads only members before it. Want of memory is the only error.
+/// Qt 5.15, "QML Documents", and "QML Object Attributes", Defining Property Attributes.
 #[tactic(auto, unfolding(crate::specs::Document::program_of))]
 pub fn read_document(alloc: Global, bytes: &[u8]) -> Result<Option<Program>, AllocError>
-    ensures { IfOk result (λ found. found ≡ program_of bytes.now) }
+    ensures exact { IfOk result (λ found. found ≡ program_of bytes.now) }
+    ensures in_order { IfOk result (λ found. IfSome found (AreInOrder 0)) }
 {
     if bytes.len() > LARGEST {
         return Ok(None);

@@ -11,10 +11,15 @@ mod names;
 mod numbers;
 mod pieces;
 mod script;
+#[cfg(test)]
+mod tests;
 mod values;
 
 pub use document::{LARGEST, read_document};
-pub use laws::numbers_are_decimal_digits;
+pub use laws::{
+    documents_are_read_as_spelled, first_bad_line_is_told, numbers_are_decimal_digits,
+    scripts_are_read_as_spelled,
+};
 pub use members::{Member, Program};
 pub use names::RESERVED;
 pub use script::read_script;

@@ -64,7 +64,7 @@ impl Program {
         Ok(())
     }
 
-    /// The members, by value.
+    /// The members in their order, by value: names and contents are moved.
     pub fn into_members(self, alloc: Global) -> Result<Vec<Member>, AllocError>
         ensures members { IfOk result (λ members. members.items ≡ self) }
         ensures few { IfOk result (λ members. length members.items ≤ 2 ^ 32) }

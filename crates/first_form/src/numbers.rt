@@ -14,7 +14,7 @@ fn leads_with_zero(digits: &[u8]) -> bool
     }
 }
 
-/// A decimal number within the limit, without leading zeros.
+/// A decimal number within the limit, without leading zeros. ECMA-262, 12.8.3 Numeric Literals (DecimalIntegerLiteral).
 #[tactic(auto, unfolding(crate::specs::Numbers::number_of))]
 pub fn number(digits: &[u8]) -> Option<u64>
     ensures exact { result ≡ number_of digits.now }

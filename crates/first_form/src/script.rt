@@ -2,6 +2,7 @@
 ghost use Rattle.std.specs.Prelude.{◌≡◌, ◌^◌, ◌<◌, [], ◌∷◌, length, IfOk};
 ghost use Rattle.std.specs.List.{list_all};
 ghost use Rattle.std.specs.Option.{option_map};
+ghost use Rattle.first_form.specs.Bounds.{AreLinesBelow};
 ghost use Rattle.first_form.specs.Document.{names_of};
 ghost use Rattle.first_form.specs.Pieces.{pieces_of};
 ghost use Rattle.first_form.specs.Script.{signed_of, assigned_in, done_by, printed_by, deed_of, is_comment, is_blank, is_skipped, script_from, script_of};
@@ -151,7 +152,9 @@ fn script_lines(
     }
 }
 
-/// The lines of a script with what each asks for, or the number, from 1 on, of the first that is neither left out nor of the form.
+/// The lines of a script with what each asks for (specs/ScriptForm), or the number, from 1 on, of the first that is neither left out
+/// nor of the form. Want of memory is the only error.
+/// Each cell is one of a member, and each number at most 2^53.
 /// A script of more than `LARGEST` bytes is refused as line 0.
 #[tactic(auto, unfolding(crate::specs::Script::script_of))]
 pub fn read_script(
@@ -159,7 +162,8 @@ pub fn read_script(
     program: &Program,
     bytes: &[u8],
 ) -> Result<Result<Vec<ScriptLine>, u32>, AllocError>
-    ensures { IfOk result (λ read. GivesLines read (script_of (names_of program.now) bytes.now)) }
+    ensures exact { IfOk result (λ read. GivesLines read (script_of (names_of program.now) bytes.now)) }
+    ensures below { IfOk result (λ read. IfOk read (λ lines. AreLinesBelow (length program.now) lines.items)) }
 {
     if bytes.len() > LARGEST {
         return Ok(Err(0));

@@ -1,5 +1,4 @@
 use Rattle.first_form.proofs.NumberLemmas.{number_found, number_only}
-use Rattle.first_form.proofs.NameLemmas.{name_no_digits}
 use Rattle.first_form.proofs.laws.numbers_are_decimal_digits.Goals as goal
 
 pub returns-clause-found : goal.returns-clause-found
