@@ -1,0 +1,11 @@
+pub mod BoundLemmas
+pub mod CutLemmas
+pub mod DocumentLemmas
+pub mod FormLemmas
+pub mod MapLemmas
+pub mod MarkLemmas
+pub mod NameLemmas
+pub mod NumberLemmas
+pub mod ReadLemmas
+pub mod ScriptLemmas
+pub mod ValueLemmas

@@ -1,0 +1,13 @@
+pub mod Blanks
+pub mod Bounds
+pub mod Document
+pub mod DocumentForm
+pub mod Forms
+pub mod Members
+pub mod Names
+pub mod Numbers
+pub mod Pieces
+pub mod Script
+pub mod ScriptForm
+pub mod Steps
+pub mod Values
