@@ -1,0 +1,11 @@
+use Rattle.std.proofs.Common.{◌≡◌, drop}
+use Rattle.qml_model.specs.Machine.{script_run}
+use Rattle.qmlrun_core.specs.Steps.{told, IsNamed}
+use Rattle.qmlrun_core.proofs.machine.do_lines.Given as goal
+
+-- going on from here gives the whole run
+abbrev pub invariant-script : goal.invariant-script
+invariant-script g l = record {
+  named : IsNamed l.names l.tree;
+  exact : told l.text.items (script_run l.names l.tree (drop l.line-index l.script)) ≡ told l.fn.text.items (script_run l.names l.fn.tree l.script);
+}
