@@ -1,16 +1,14 @@
 -- The classes of characters apart from each other.
-use Rattle.std.proofs.Common.{◌≡◌, ◌≢◌, ℕ, zero, suc, ◌<◌, ◌≤◌, Bool, true, false, not, ◌&&◌, ◌||◌, List, [], ◌∷◌, refl, sym, ap, ◌∙◌, subst, arith, eqb→eq, T}
+use Rattle.std.proofs.Common.{◌≡◌, ◌≢◌, ℕ, ◌<◌, Bool, true, false, not, ◌||◌, refl, ap, ◌∙◌, arith}
 use Rattle.std.specs.Prelude.{◌==◌, nat_lt}
-use Rattle.std.specs.Bool.{beq}
-use Rattle.std.specs.Char.{digit_value, is_digit, is_ascii_alphabetic, is_ascii_alphanumeric}
+use Rattle.std.specs.Char.{is_ascii_alphanumeric, is_digit}
 use Rattle.std.proofs.lemmas.Bool.Decides.{nat_tests}
 use Rattle.ucd_table.proofs.Facts.{Stepped-below}
 use Rattle.ucd_derived.proofs.BinaryLemmas.{is_xid_start_stepped, is_xid_continue_stepped}
 use Rattle.unicode_ident.specs.Ident.{is_xid_start, is_xid_continue}
 use Rattle.unicode_ident.proofs.Computing.{unicode_ident}
-use Rattle.unicode_ident.proofs.IdentLemmas.{is_xid_start-is_xid_continue}
-use Rattle.qml_lexer.specs.Characters.{is_start, is_part, is_blank, is_quote, is_line_end, is_in_line}
-use Rattle.qml_lexer.proofs.RunLemmas.{and_true}
+use Rattle.unicode_ident.proofs.IdentLemmas.{is_xid_start-is_xid_continue, is_xid_continue-ascii}
+use Rattle.qml_lexer.specs.Characters.{is_start, is_part, is_blank, is_quote}
 
 pub same_number : (x k : ℕ) → (x == k) ≡ true → x ≡ k
 same_number x k h = grind (arith, nat_tests)
@@ -127,3 +125,7 @@ quote_alone x h =
     let e160 : (x == 160) ≡ false = apart is_quote 160 x refl h in
     let e65279 : (x == 65279) ≡ false = apart is_quote 65279 x refl h in
     (rw (e32, e9, e11, e12, e10, e13, e160, e65279) refl, apart is_quote 47 x refl h)
+
+-- the parts among ASCII
+pub ascii_part : (x : ℕ) → x < 128 → is_part x ≡ ((is_ascii_alphanumeric x || (x == 95)) || (x == 36))
+ascii_part x h = ap (λ v. v || (x == 36)) (is_xid_continue-ascii x h)

@@ -1,9 +1,8 @@
 -- What the front of a text is cut into.
-use Rattle.std.proofs.Common.{◌≡◌, ◌≢◌, ℕ, ◌+◌, ◌<◌, ◌≤◌, ◌⊎◌, inl, inr, Bool, true, false, not, ◌&&◌, ◌||◌, List, [], ◌∷◌, ◌++◌, length, Option, Some, None, Result, Ok, Err, refl, sym, ap, ◌∙◌, subst, arith, if◌then◌else◌, append_assoc, length-append}
+use Rattle.std.proofs.Common.{◌≡◌, ◌≢◌, ℕ, ◌<◌, ◌≤◌, ◌⊎◌, inl, inr, Bool, true, false, not, ◌||◌, List, [], ◌∷◌, ◌++◌, length, Option, Some, None, Ok, Err, refl, sym, ap, ◌∙◌, subst, arith, if◌then◌else◌, append_assoc, length-append}
 use Rattle.std.specs.Prelude.{◌==◌, nat_lt}
 use Rattle.std.specs.List.{list_all}
 use Rattle.std.specs.Char.{is_digit}
-use Rattle.std.proofs.lemmas.Bool.Decides.{nat_tests}
 use Rattle.qml_text.specs.Utf.{encode_utf16_all}
 use Rattle.qml_syntax.specs.declared.mark.Mark.{Mark}
 use Rattle.qml_syntax.specs.declared.token.TokenKind.{TokenKind}
@@ -13,23 +12,23 @@ use Rattle.qml_lexer.specs.declared.fault.LexCause.TheVariants as cause
 use Rattle.qml_lexer.specs.declared.front.Item.{Item}
 use Rattle.qml_lexer.specs.declared.front.Item.TheVariants as item
 use Rattle.qml_lexer.specs.declared.marks.TheConstants.{MARKS}
-use Rattle.qml_lexer.specs.Characters.{begins, run, behind, is_blank, is_in_line, is_part, is_quote, is_start}
+use Rattle.qml_lexer.specs.Characters.{run, behind, is_blank, is_in_line, is_part, is_quote, is_start}
 use Rattle.qml_lexer.specs.Causes.{BeginsBlock, HasCause, HasWrongEscape}
-use Rattle.qml_lexer.specs.Front.{ReadsItem, behind_comment, closed, commented, front, marked, named, numbered, of_kind, of_mark, of_text, quoted, slash}
-use Rattle.qml_lexer.specs.Gaps.{IsGap, a_blank, a_line_comment, a_block_comment}
+use Rattle.qml_lexer.specs.Front.{ReadsItem, behind_comment, closed, front, marked, named, numbered, of_kind, of_mark, of_text, quoted, slash}
+use Rattle.qml_lexer.specs.Gaps.{IsGap, some_blanks, a_line_comment, a_block_comment}
 use Rattle.qml_lexer.specs.Lex.{Takes, IsStuck}
 use Rattle.qml_lexer.specs.Marks.{mark, mark_spelling, first_of}
 use Rattle.qml_lexer.specs.Names.{name}
 use Rattle.qml_lexer.specs.Numbers.{ReadsKind, number}
-use Rattle.qml_lexer.specs.Spells.{Says, value_of, begins_comment, is_identifier, are_digits, Spells, a_name, a_word, a_decimal, a_hexadecimal, a_version, a_text, a_mark, MayStandBefore, Fits, IsToken}
+use Rattle.qml_lexer.specs.Spells.{Says, value_of, begins_comment, is_identifier, are_digits, Spells, a_name, a_word, a_decimal, a_hexadecimal, a_version, a_text, a_mark, MayStandBefore, Fits}
 use Rattle.qml_lexer.specs.Texts.{ReadsText, body}
-use Rattle.qml_lexer.proofs.CharacterLemmas.{same_number, other_number, never, start_alone, start_no_digit, digit_alone, quote_alone}
+use Rattle.qml_lexer.proofs.CharacterLemmas.{same_number, never, start_alone, start_no_digit, digit_alone, quote_alone}
 use Rattle.qml_lexer.proofs.GapLemmas.{block_cut, block_read}
 use Rattle.qml_lexer.proofs.LiteralLemmas.{says_read, view_of, text_cut, text_stuck, never_open}
 use Rattle.qml_lexer.proofs.NameLemmas.{name_read, word_read, word_identifier, name_cut}
 use Rattle.qml_lexer.proofs.NumberLemmas.{AtLeast, Cut, decimal_read, hexadecimal_read, version_read, number_cut, number_stuck}
-use Rattle.qml_lexer.proofs.PairLemmas.{ok_parts, some_parts}
-use Rattle.qml_lexer.proofs.RunLemmas.{and_true, run_passes, behind_stops, behind_over, behind_stopped}
+use Rattle.qml_lexer.proofs.PairLemmas.{ok_parts}
+use Rattle.qml_lexer.proofs.RunLemmas.{and_both, and_true, run_passes, behind_stops, behind_over, behind_stopped}
 use Rattle.qml_lexer.proofs.TableLemmas.{begins_mark, mark_begins, mark_found, found_cut, word_length}
 use Rattle.qml_lexer.proofs.Utf8Lemmas.{run-behind}
 
@@ -41,7 +40,7 @@ no_comment_at x (y ∷ xs) h = rw h refl
 
 -- what stands at the front, by what begins there
 data Case (x : ℕ) (xs : List ℕ) : ReadsItem → Type 0 where
-  c_blank : is_blank x ≡ true → Case x xs (Ok (item.Gap, xs))
+  c_blank : is_blank x ≡ true → Case x xs (Ok (item.Gap, behind is_blank xs))
   c_line : (ys : List ℕ) → x ≡ 47 → xs ≡ 47 ∷ ys → Case x xs (Ok (item.Gap, behind is_in_line xs))
   c_block : (ys : List ℕ) → x ≡ 47 → xs ≡ 42 ∷ ys → Case x xs (closed (behind_comment false ys))
   c_mark : begins_comment (x ∷ xs) ≡ false → is_digit x 10 ≡ false → is_quote x ≡ false → Case x xs (of_mark (mark (x ∷ xs)))
@@ -65,7 +64,7 @@ unfolding front quoted named numbered marked
 front_case x xs = by (is_blank x) refl (x == 47) refl (is_quote x) refl (is_digit x 10) refl (is_start x) refl
   where
     by : (a : Bool) → is_blank x ≡ a → (b : Bool) → (x == 47) ≡ b → (c : Bool) → is_quote x ≡ c → (d : Bool) → is_digit x 10 ≡ d → (e : Bool) → is_start x ≡ e
-        → Case x xs (if a then Ok (item.Gap, xs) else (if b then slash xs else (if c then quoted x xs else (if d then numbered (x ∷ xs) else (if e then named (x ∷ xs) else marked (x ∷ xs))))))
+        → Case x xs (if a then Ok (item.Gap, behind is_blank xs) else (if b then slash xs else (if c then quoted x xs else (if d then numbered (x ∷ xs) else (if e then named (x ∷ xs) else marked (x ∷ xs))))))
     by true h b i c j d k e l = c_blank h
     by false h true i c j d k e l = let P : ℕ → Type 0 = λ z. Case z xs (slash xs) in subst P (sym (same_number x 47 i)) (slash_case xs)
     by false h false i true j d k e l = c_text (no_comment_at x xs i) j
@@ -272,7 +271,13 @@ text_item q xs rest taken (Ok p) h n e g =
 
 case_cut : {x : ℕ} {xs : List ℕ} {r : ReadsItem} → Case x xs r → (taken : Item) (rest : List ℕ) → r ≡ Ok (taken, rest) → ItemCut (x ∷ xs) taken rest
 unfolding mark
-case_cut {x} {xs} (c_blank h) taken rest e = given (x ∷ xs) item.Gap taken xs rest e (record { w = x ∷ []; cut = refl; some = omega arith; stands = a_blank h })
+case_cut {x} {xs} (c_blank h) taken rest e =
+    given (x ∷ xs) item.Gap taken (behind is_blank xs) rest e (record {
+      w = x ∷ run is_blank xs;
+      cut = ap (λ z. x ∷ z) (sym (run-behind is_blank xs));
+      some = omega arith;
+      stands = some_blanks (and_both (is_blank x) (list_all is_blank (run is_blank xs)) h (run_passes is_blank xs)) (behind_stops is_blank xs);
+    })
 case_cut {x} {xs} (c_line ys h g) taken rest e =
     let same : x ∷ xs ≡ 47 ∷ 47 ∷ ys = ap (λ z. z ∷ xs) h ∙ ap (λ z. 47 ∷ z) g in
     let P : List ℕ → Type 0 = λ z. ItemCut z item.Gap (behind is_in_line xs) in
@@ -314,7 +319,10 @@ front_takes xs rest taken e = let c = item_cut xs rest taken e in (c.w, c.cut, c
 
 gap_read : (w rest : List ℕ) → IsGap w rest → front (w ++ rest) ≡ Ok (item.Gap, rest)
 unfolding front slash
-gap_read _ rest (a_blank h) = rw h refl
+gap_read _ rest (some_blanks {x} {more} h s) =
+    let t = and_true (is_blank x) (list_all is_blank more) h in
+    let first : is_blank x ≡ true = t.0 in
+    rw first (ap (λ z. item_answer item.Gap z) (behind_over is_blank more rest t.1 ∙ behind_stopped is_blank rest s))
 gap_read _ rest (a_line_comment {inside} h s) = ap (λ z. item_answer item.Gap z) (behind_over is_in_line inside rest h ∙ behind_stopped is_in_line rest s)
 gap_read _ rest (a_block_comment {inside} c) = ap closed (block_read inside rest c)
 

@@ -1,10 +1,8 @@
 -- Comments.
-use Rattle.std.proofs.Common.{◌≡◌, ◌≢◌, ℕ, ◌<◌, ◌≤◌, ◌⊎◌, inl, inr, Bool, true, false, not, ◌&&◌, ◌||◌, List, [], ◌∷◌, ◌++◌, length, Option, Some, None, refl, sym, ap, ◌∙◌, arith, if◌then◌else◌, append_assoc}
+use Rattle.std.proofs.Common.{◌≡◌, ◌≢◌, ℕ, ◌⊎◌, inl, inr, Bool, true, false, ◌&&◌, List, [], ◌∷◌, ◌++◌, Option, Some, None, refl, sym, ap, ◌∙◌, if◌then◌else◌, append_assoc}
 use Rattle.std.specs.Prelude.{◌==◌}
-use Rattle.std.specs.List.{list_all}
-use Rattle.qml_lexer.specs.Characters.{begins, run, behind, is_blank, is_in_line}
 use Rattle.qml_lexer.specs.Front.{behind_comment}
-use Rattle.qml_lexer.specs.Gaps.{EndsAtFirstClose, IsGap, a_blank, a_line_comment, a_block_comment}
+use Rattle.qml_lexer.specs.Gaps.{EndsAtFirstClose}
 use Rattle.qml_lexer.proofs.CharacterLemmas.{same_number}
 
 and_false : (v : Bool) → (v && false) ≡ false

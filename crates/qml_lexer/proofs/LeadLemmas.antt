@@ -1,20 +1,17 @@
 -- How reading goes on.
-use Rattle.std.proofs.Common.{◌≡◌, ℕ, ◌+◌, ◌-◌, ◌<◌, ◌≤◌, List, [], ◌∷◌, ◌++◌, length, Result, Ok, Err, refl, sym, ap, ◌∙◌, arith, subst, append_assoc, length-append}
+use Rattle.std.proofs.Common.{◌≡◌, ℕ, ◌+◌, ◌<◌, List, [], ◌∷◌, ◌++◌, length, Ok, Err, refl, sym, ap, arith, subst, append_assoc, length-append}
 use Rattle.std.specs.Str.{IsUtf8, chars, encode_utf8_all}
 use Rattle.std.proofs.lemmas.Str.{length-le-encodes, encodes-chars, chars-nil}
 use Rattle.qml_syntax.specs.declared.token.TokenKind.{TokenKind}
 use Rattle.qml_syntax.specs.declared.token.TokenKind.TheVariants.{End}
 use Rattle.qml_syntax.specs.declared.token.Token.{Token}
 use Rattle.qml_lexer.specs.declared.fault.LexCause.{LexCause}
-use Rattle.qml_lexer.specs.declared.fault.LexFault.{LexFault}
-use Rattle.qml_lexer.specs.declared.fault.LexFault.TheVariants as fault
 use Rattle.qml_lexer.specs.declared.front.Item.{Item}
 use Rattle.qml_lexer.specs.declared.front.Item.TheVariants as item
 use Rattle.qml_lexer.specs.declared.lexer.Cursor.{Cursor}
 use Rattle.qml_lexer.specs.Front.{front}
 use Rattle.qml_lexer.specs.Lex.{Takes, Tokens, at_end, over_gap, over_token, Sticks, here, later, bytes_of, token, token_at, IsAt}
-use Rattle.qml_lexer.specs.Turns.{Leads, Turns, IsBodyAnswer}
-use Rattle.qml_lexer.specs.Places.{place_at}
+use Rattle.qml_lexer.specs.Turns.{Leads}
 use Rattle.qml_lexer.proofs.FrontLemmas.{front_takes, front_stuck}
 use Rattle.qml_lexer.proofs.Utf8Lemmas.{split_bytes}
 

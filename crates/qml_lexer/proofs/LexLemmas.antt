@@ -1,21 +1,21 @@
 -- At most one token list reads given bytes, and none where they are refused.
-use Rattle.std.proofs.Common.{◌≡◌, ◌≢◌, ℕ, ◌+◌, ◌<◌, ◌≤◌, ◌⊎◌, inl, inr, List, [], ◌∷◌, ◌++◌, length, Result, Ok, Err, refl, sym, ap, ◌∙◌, subst, arith, length-append}
+use Rattle.std.proofs.Common.{◌≡◌, ℕ, ◌+◌, inl, inr, List, [], ◌∷◌, ◌++◌, length, Result, Ok, Err, refl, sym, ap, ◌∙◌, subst, arith, length-append}
 use Rattle.qml_base.specs.declared.numbers.Place.{Place}
 use Rattle.qml_syntax.specs.declared.token.TokenKind.{TokenKind}
 use Rattle.qml_syntax.specs.declared.token.Token.{Token}
-use Rattle.std.specs.Str.{IsUtf8, chars}
+use Rattle.std.specs.Str.{IsUtf8}
 use Rattle.qml_lexer.specs.declared.fault.LexCause.{LexCause}
 use Rattle.qml_lexer.specs.declared.front.Item.{Item}
 use Rattle.qml_lexer.specs.declared.front.Item.TheVariants as item
-use Rattle.qml_lexer.specs.Front.{ReadsItem, front}
-use Rattle.qml_lexer.specs.Lex.{Takes, Tokens, at_end, over_gap, over_token, Sticks, here, later, bytes_of, token_at, IsStuck, IsLexed, IsRefused, IsAnswer, IsUnread}
+use Rattle.qml_lexer.specs.Front.{front}
+use Rattle.qml_lexer.specs.Lex.{Takes, Tokens, at_end, over_gap, over_token, Sticks, here, later, bytes_of, token_at, IsLexed, IsRefused, IsAnswer, IsUnread}
 use Rattle.qml_lexer.specs.Turns.{IsBodyAnswer}
 use Rattle.std.specs.Prelude.{Vec}
 use Rattle.std.specs.declared.alloc.Global.{Global}
 use Rattle.qml_lexer.specs.declared.fault.LexFault.{LexFault}
 use Rattle.qml_lexer.specs.declared.fault.LexFault.TheVariants as fault
 use Rattle.qml_lexer.specs.Places.{body_of}
-use Rattle.qml_lexer.proofs.FrontLemmas.{takes_front, front_takes, same_tail}
+use Rattle.qml_lexer.proofs.FrontLemmas.{takes_front, front_takes}
 use Rattle.qml_lexer.proofs.PairLemmas.{ok_parts}
 
 -- two ways to take something off one front are one

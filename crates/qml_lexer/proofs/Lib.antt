@@ -2,6 +2,7 @@ pub mod CharacterLemmas
 pub mod FrontLemmas
 pub mod GapLemmas
 pub mod LeadLemmas
+pub mod LengthLemmas
 pub mod LexLemmas
 pub mod LiteralLemmas
 pub mod MarkLemmas

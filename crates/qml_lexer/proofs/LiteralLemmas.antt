@@ -1,8 +1,8 @@
 -- Texts and their spellings.
-use Rattle.std.proofs.Common.{◌≡◌, ◌≢◌, ℕ, zero, suc, ◌+◌, ◌*◌, ◌<◌, ◌≤◌, ◌⊎◌, inl, inr, Bool, true, false, not, ◌&&◌, ◌||◌, List, [], ◌∷◌, ◌++◌, length, Option, Some, None, Result, Ok, Err, refl, sym, ap, ◌∙◌, subst, arith, if◌then◌else◌, append_assoc, length-append}
+use Rattle.std.proofs.Common.{◌≡◌, ◌≢◌, ℕ, zero, suc, ◌+◌, ◌*◌, ◌<◌, ◌≤◌, ◌⊎◌, inl, inr, Bool, true, false, ◌&&◌, List, [], ◌∷◌, ◌++◌, length, Option, Some, None, Ok, Err, refl, sym, ap, ◌∙◌, subst, arith, if◌then◌else◌, append_assoc, length-append}
 use Rattle.std.proofs.lemmas.Bool.Decides.{nat_tests}
 use Rattle.std.specs.Prelude.{◌==◌}
-use Rattle.std.specs.Char.{digit_value, is_digit}
+use Rattle.std.specs.Char.{digit_value}
 use Rattle.std.specs.Char.Escape.{encode_utf16}
 use Rattle.qml_lexer.specs.declared.fault.LexCause.{LexCause}
 use Rattle.qml_lexer.specs.declared.fault.LexCause.TheVariants as cause
@@ -11,7 +11,7 @@ use Rattle.qml_lexer.specs.Texts.{ReadsText, two_digits, four_digits, with_rest,
 use Rattle.qml_lexer.specs.Spells.{IsEscape, simple, two_digits as two, four_digits as four, Says, nothing, plain, escaped}
 use Rattle.qml_lexer.specs.Causes.{NoEscape, HasWrongEscape, here, behind_plain, behind_escape as behind_good}
 use Rattle.qml_lexer.proofs.PairLemmas.{some_parts, ok_parts}
-use Rattle.qml_lexer.proofs.CharacterLemmas.{same_number, other_number}
+use Rattle.qml_lexer.proofs.CharacterLemmas.{same_number}
 use Rattle.qml_lexer.proofs.TextLemmas.{two_short, two_value, four_of, four_short, four_value, four_unit, at_backslash, at_other, behind_escape}
 
 -- ---- escapes

@@ -1,10 +1,9 @@
 -- Names and reserved words.
-use Rattle.std.proofs.Common.{◌≡◌, ◌≢◌, ℕ, ◌-◌, ◌<◌, ◌≤◌, Bool, true, false, not, ◌&&◌, ◌||◌, List, [], ◌∷◌, ◌++◌, length, take, Option, Some, None, Result, Ok, refl, sym, ap, ◌∙◌, arith, subst, append-nil, if◌then◌else◌}
+use Rattle.std.proofs.Common.{◌≡◌, ◌≢◌, ℕ, ◌-◌, ◌<◌, Bool, true, false, List, [], ◌∷◌, ◌++◌, length, take, Option, Some, None, Ok, refl, sym, ap, ◌∙◌, arith, subst, append-nil, if◌then◌else◌}
 use Rattle.std.specs.List.{list_all}
-use Rattle.std.specs.Char.{is_ascii_lowercase, is_ascii_alphabetic, is_ascii_alphanumeric}
-use Rattle.std.specs.Prelude.{◌==◌, nat_lt}
+use Rattle.std.specs.Char.{is_ascii_lowercase, is_ascii_alphabetic}
+use Rattle.std.specs.Prelude.{nat_lt}
 use Rattle.std.specs.Str.{bytes_eq}
-use Rattle.std.proofs.lemmas.Slice.Eq.{bytes_eq-Decides}
 use Rattle.std.proofs.lemmas.Bool.Decides.{nat_tests}
 use Rattle.std.specs.Cmp.Lexicographic.{same_text}
 use Rattle.std.specs.Str.{IsUtf8, chars, encode_utf8_all}
@@ -18,10 +17,10 @@ use Rattle.qml_text.specs.Utf.{encode_utf16_all}
 use Rattle.qml_syntax.specs.declared.token.TokenKind.TheVariants as kind
 use Rattle.qml_lexer.specs.Characters.{is_start}
 use Rattle.qml_lexer.specs.Names.{word_spelling}
-use Rattle.qml_lexer.specs.Spells.{is_identifier, Spells, a_name, a_word, Fits}
+use Rattle.qml_lexer.specs.Spells.{is_identifier, a_name, a_word, Fits}
 use Rattle.unicode_ident.proofs.IdentLemmas.{is_xid_start-ascii}
 use Rattle.unicode_ident.specs.Ident.{is_xid_start}
-use Rattle.qml_lexer.proofs.CharacterLemmas.{never, start_part}
+use Rattle.qml_lexer.proofs.CharacterLemmas.{start_part}
 use Rattle.qml_lexer.proofs.NumberLemmas.{AtLeast, Cut}
 use Rattle.qml_lexer.proofs.PairLemmas.{ok_parts}
 use Rattle.qml_lexer.proofs.RunLemmas.{and_true, and_both, run_passes, run_over, behind_over, behind_short, run_none}

@@ -1,5 +1,5 @@
 -- Numbers and versions, and their spellings.
-use Rattle.std.proofs.Common.{◌≡◌, ◌≢◌, ℕ, suc, ◌+◌, ◌*◌, ◌^◌, ◌<◌, ◌≤◌, ◌⊎◌, inl, inr, Bool, true, false, not, ◌&&◌, ◌||◌, List, [], ◌∷◌, ◌++◌, length, fold, Option, Some, None, Result, Ok, Err, refl, sym, ap, ◌∙◌, arith, if◌then◌else◌, append_assoc, append-nil, subst}
+use Rattle.std.proofs.Common.{◌≡◌, ℕ, ◌+◌, ◌*◌, ◌^◌, ◌<◌, ◌≤◌, ◌⊎◌, inl, inr, Bool, true, false, ◌&&◌, ◌||◌, List, [], ◌∷◌, ◌++◌, length, fold, Option, Some, None, Ok, Err, refl, sym, ap, ◌∙◌, arith, if◌then◌else◌, append_assoc, append-nil, subst}
 use Rattle.std.specs.Prelude.{◌==◌, nat_lt}
 use Rattle.std.specs.List.{list_all}
 use Rattle.std.specs.Char.{digit_value, is_digit}
@@ -10,11 +10,11 @@ use Rattle.qml_lexer.specs.declared.fault.LexCause.{LexCause}
 use Rattle.qml_lexer.specs.declared.fault.LexCause.TheVariants as cause
 use Rattle.qml_lexer.specs.Characters.{begins, run, behind, is_part}
 use Rattle.qml_lexer.specs.Numbers.{ReadsKind, value_from, whole, behind_hexadecimal_mark, behind_dot, begins_with_zero, hexadecimal_or, plain_number, version_or, number}
-use Rattle.qml_lexer.specs.Spells.{are_digits, value_of, has_leading_zero, Spells, a_decimal, a_hexadecimal, a_version, MayStandBefore, Fits}
+use Rattle.qml_lexer.specs.Spells.{are_digits, value_of, has_leading_zero, Spells, a_decimal, a_hexadecimal, a_version, Fits}
 use Rattle.unicode_ident.proofs.Computing.{unicode_ident}
 use Rattle.qml_lexer.proofs.PairLemmas.{ok_parts}
 use Rattle.qml_lexer.proofs.CharacterLemmas.{same_number, other_number, apart, never, decimal_is_hex, digit_part}
-use Rattle.qml_lexer.proofs.RunLemmas.{and_true, run_passes, behind_stops, run_over, behind_over, behind_short, run_stopped, behind_stopped}
+use Rattle.qml_lexer.proofs.RunLemmas.{and_true, run_passes, run_over, behind_over, behind_short, run_stopped, behind_stopped}
 use Rattle.qml_lexer.proofs.Utf8Lemmas.{run-behind}
 
 -- what a reader of kinds gives where a token of a kind stands before `more`: a token at least as long

@@ -1,5 +1,5 @@
 -- Pairs in answers.
-use Rattle.std.proofs.Common.{◌≡◌, Option, Some, Result, Ok, ap}
+use Rattle.std.proofs.Common.{◌≡◌, Some, Result, Ok, ap}
 
 pub some_parts : {A B : Type 0} (p q : A × B) → Some p ≡ Some q → (p.0 ≡ q.0) × (p.1 ≡ q.1)
 some_parts {A} {B} p q h =

@@ -1,8 +1,7 @@
 -- Bytes and the characters that they spell.
-use Rattle.std.proofs.Common.{◌≡◌, ℕ, ◌+◌, ◌-◌, ◌<◌, ◌≤◌, List, [], ◌∷◌, ◌++◌, length, take, drop, refl, sym, ap, ◌∙◌, arith, subst, append_assoc, length-append, Bool, true, false, if◌then◌else◌}
+use Rattle.std.proofs.Common.{◌≡◌, ℕ, ◌-◌, List, [], ◌∷◌, ◌++◌, length, take, refl, sym, ap, ◌∙◌, arith, subst, length-append, Bool, true, false, if◌then◌else◌}
 use Rattle.std.specs.Str.{IsUtf8, IsCharBoundary, chars, encode_utf8_all}
 use Rattle.std.proofs.lemmas.Str.{encodes-chars, encodes-append, chars_from_encodes, IsCharBoundary-at_seam, IsUtf8-take}
-use Rattle.std.proofs.lemmas.List.{take-append-le}
 use Rattle.qml_lexer.specs.Characters.{run, behind}
 
 -- a text that spells some characters and then those of `rest` is their bytes and then `rest`

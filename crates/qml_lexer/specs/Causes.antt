@@ -1,5 +1,5 @@
 -- Why nothing is read at a place.
-use Rattle.std.specs.Prelude.{◌≡◌, ◌≢◌, ℕ, ◌||◌, true, false, ◌⊎◌, List, [], ◌∷◌, ◌++◌}
+use Rattle.std.specs.Prelude.{◌≡◌, ◌≢◌, ℕ, true, false, List, ◌∷◌, ◌++◌}
 use Rattle.std.specs.Char.{is_digit}
 use Rattle.qml_lexer.specs.declared.fault.LexCause.{LexCause}
 use Rattle.qml_lexer.specs.declared.fault.LexCause.TheVariants as cause

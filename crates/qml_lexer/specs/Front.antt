@@ -1,8 +1,7 @@
 -- What stands at the front of a text.
-use Rattle.std.specs.Prelude.{ℕ, Bool, true, false, ◌&&◌, ◌==◌, List, [], ◌∷◌, Option, Some, None, Result, Ok, Err, if◌then◌else◌}
+use Rattle.std.specs.Prelude.{ℕ, Bool, false, ◌&&◌, ◌==◌, List, [], ◌∷◌, Option, Some, None, Result, Ok, Err, if◌then◌else◌}
 use Rattle.std.specs.Char.{is_digit}
 use Rattle.qml_syntax.specs.declared.mark.Mark.{Mark}
-use Rattle.qml_syntax.specs.declared.token.TokenKind.{TokenKind}
 use Rattle.qml_syntax.specs.declared.token.TokenKind.TheVariants as kind
 use Rattle.qml_lexer.specs.declared.fault.LexCause.{LexCause}
 use Rattle.qml_lexer.specs.declared.fault.LexCause.TheVariants as cause
@@ -62,7 +61,7 @@ slash xs = if begins (λ x. x == 47) xs then Ok (item.Gap, behind is_in_line xs)
 unfoldable pub front : List ℕ → ReadsItem
 front [] = Err cause.Character
 front (x ∷ xs) =
-    if is_blank x then Ok (item.Gap, xs)
+    if is_blank x then Ok (item.Gap, behind is_blank xs)
     else (if x == 47 then slash xs
     else (if is_quote x then quoted x xs
     else (if is_digit x 10 then numbered (x ∷ xs)

@@ -9,8 +9,8 @@ pub record EndsAtFirstClose (w : List ℕ) : Type 0 where
   pub ends : w ≡ inside ++ 42 ∷ 47 ∷ []
   pub first : (front rest : List ℕ) → inside ++ 42 ∷ [] ≢ front ++ 42 ∷ 47 ∷ rest
 
--- these characters are one blank or one comment where the rest follows them
+-- these characters are all the blanks at a place, or one comment, where the rest follows them
 pub data IsGap : List ℕ → List ℕ → Type 0 where
-  a_blank : {x : ℕ} {rest : List ℕ} → is_blank x ≡ true → IsGap (x ∷ []) rest
+  some_blanks : {x : ℕ} {more rest : List ℕ} → list_all is_blank (x ∷ more) ≡ true → begins is_blank rest ≡ false → IsGap (x ∷ more) rest
   a_line_comment : {inside rest : List ℕ} → list_all is_in_line inside ≡ true → begins is_in_line rest ≡ false → IsGap (47 ∷ 47 ∷ inside) rest
   a_block_comment : {inside rest : List ℕ} → EndsAtFirstClose inside → IsGap (47 ∷ 42 ∷ inside) rest

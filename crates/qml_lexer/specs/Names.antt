@@ -1,5 +1,5 @@
 -- The name or reserved word at the front.
-use Rattle.std.specs.Prelude.{ℕ, codes, List, [], ◌∷◌, Option, Some, None, Result, Ok, if◌then◌else◌}
+use Rattle.std.specs.Prelude.{ℕ, codes, List, [], ◌∷◌, Option, Some, None, Ok, if◌then◌else◌}
 use Rattle.std.specs.Str.{bytes_eq, encode_utf8_all}
 use Rattle.qml_text.specs.Utf.{encode_utf16_all}
 use Rattle.qml_syntax.specs.declared.word.Word.{Word}

@@ -76,8 +76,23 @@ pub struct Parts;
 impl Class for Parts {
     ghost holds = { s.is_part };
 
+    #[tactic(auto, using(crate::proofs::CharacterLemmas::ascii_part))]
     fn has(&self, character: char) -> bool {
+        if character.is_ascii() {
+            return character.is_ascii_alphanumeric() || character == '_' || character == '$';
+        }
         is_xid_continue(character) || character == '$'
+    }
+}
+
+/// The blanks.
+pub struct Blanks;
+
+impl Class for Blanks {
+    ghost holds = { s.is_blank };
+
+    fn has(&self, character: char) -> bool {
+        is_blank(character)
     }
 }
 

@@ -6,7 +6,7 @@ ghost use Rattle.qml_lexer.specs.Front as s;
 ghost use Rattle.qml_lexer.specs.Reading.{Gives};
 
 use crate::characters::{
-    InLine, begins_with, behind_run, is_blank, is_quote, is_start, split_first_char,
+    Blanks, InLine, begins_with, behind_run, is_blank, is_quote, is_start, split_first_char,
 };
 use crate::fault::{Fault, LexCause};
 use crate::marks::mark;
@@ -19,7 +19,7 @@ use std::alloc::Global;
 /// What stands at the front of a text.
 #[derive(Drop)]
 pub enum Item {
-    /// A blank or a comment.
+    /// Blanks or a comment.
     Gap,
     /// A token of this kind.
     Token(TokenKind),
@@ -113,7 +113,7 @@ pub fn front(alloc: Global, text: &str) -> Result<(Item, &str), Fault>
         return Err(Fault::Bad(LexCause::Character));
     };
     if is_blank(first) {
-        return Ok((Item::Gap, behind));
+        return Ok((Item::Gap, behind_run(behind, &Blanks)));
     }
     if first == '/' {
         return slash(text, behind);

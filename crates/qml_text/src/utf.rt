@@ -15,7 +15,7 @@ impl Text {
     pub fn from_str(alloc: Global, characters: &str) -> Result<Text, NoMemory>
         ensures { IfOk result (λ t. t ≡ encode_utf16_all (chars characters.now)) }
     {
-        let mut text = Text::new(alloc);
+        let mut text = Text::from_units(Vec::with_capacity(alloc, characters.len())?);
         for character in characters.chars() {
             text.push_char(character)?;
         }

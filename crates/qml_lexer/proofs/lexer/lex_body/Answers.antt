@@ -1,4 +1,4 @@
-use Rattle.std.proofs.Common.{◌≡◌, length, arith, eqb-true}
+use Rattle.std.proofs.Common.{arith}
 use Rattle.std.proofs.lemmas.Bool.Decides.{nat_tests}
 use Rattle.qml_lexer.proofs.LeadLemmas.{ended}
 use Rattle.qml_lexer.proofs.lexer.lex_body.Goals as goal

@@ -1,9 +1,5 @@
-use Rattle.std.proofs.Common.{◌≡◌, ◌∙◌, ◌<◌, ◌≤◌, ◌+◌, ◌-◌, sym, ap, arith, length, rules, refl}
+use Rattle.std.proofs.Common.{◌∙◌, arith, rules, refl}
 use Rattle.std.specs.Str.{chars}
-use Rattle.qml_lexer.specs.Lex.{Takes, token}
-use Rattle.qml_lexer.specs.Places.{place_at}
-use Rattle.qml_lexer.specs.declared.front.Item.TheVariants as item
-use Rattle.qml_lexer.specs.declared.front.Item.{Item}
 use Rattle.qml_lexer.proofs.LeadLemmas.{taken_off, gap_turn, token_turn, token_is, stuck}
 use Rattle.qml_lexer.proofs.lexer.turn.Goals as goal
 

@@ -1,4 +1,4 @@
-use Rattle.std.proofs.Common.{◌≡◌, ◌++◌, ◌-◌, arith, length, length-append, ap, ℕ, List}
+use Rattle.std.proofs.Common.{arith, length, length-append, ap}
 use Rattle.std.specs.Str.{chars, encode_utf8_all}
 use Rattle.qml_lexer.specs.Characters.{is_part, run}
 use Rattle.qml_lexer.proofs.NameLemmas.{name_is}

@@ -1,4 +1,4 @@
-use Rattle.std.proofs.Common.{◌≡◌, sym, ◌∙◌, rules}
+use Rattle.std.proofs.Common.{sym, ◌∙◌, rules}
 use Rattle.std.specs.Str.{chars}
 use Rattle.qml_lexer.specs.Texts.{body}
 use Rattle.qml_lexer.proofs.TextLemmas.{no_escape, one_escape, one_other}
