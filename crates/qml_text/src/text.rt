@@ -101,6 +101,9 @@ impl Text {
         ensures ok { OnOk result (self.new ≡ self.old ++ encode_utf16 character) }
         ensures err { OnErr result (self.new ≡ self.old) }
     {
+        if character.is_ascii() {
+            return self.push_unit(character as u16);
+        }
         let mut pair = [0; 2];
         let units = character.encode_utf16(&mut pair);
         self.units.extend_from_slice(units)?;

@@ -10,25 +10,25 @@ use crate::fault::{NoMemory, TextFault};
 use crate::text::Text;
 use std::alloc::Global;
 
-/// The units of the characters of `characters`.
-fn of_str(alloc: Global, characters: &str) -> Result<Text, NoMemory>
-    ensures { IfOk result (λ t. t ≡ encode_utf16_all (chars characters.now)) }
-{
-    let mut text = Text::new(alloc);
-    for character in characters.chars() {
-        text.push_char(character)?;
-    }
-    Ok(text)
-}
-
 impl Text {
+    /// The text of these characters (ECMA-262, 11.1.2 CodePointsToString).
+    pub fn from_str(alloc: Global, characters: &str) -> Result<Text, NoMemory>
+        ensures { IfOk result (λ t. t ≡ encode_utf16_all (chars characters.now)) }
+    {
+        let mut text = Text::from_units(Vec::with_capacity(alloc, characters.len())?);
+        for character in characters.chars() {
+            text.push_char(character)?;
+        }
+        Ok(text)
+    }
+
     /// The text of the characters that the bytes spell in UTF-8 (The Unicode Standard, 3.9, table 3-7), or `BadByte`
     /// exactly where the bytes aren't UTF-8.
     pub fn from_utf8(alloc: Global, bytes: &[u8]) -> Result<Text, TextFault>
         ensures { IsReadFromUtf8 bytes.now result }
     {
         match std::str::from_utf8(bytes) {
-            Ok(characters) => Ok(of_str(alloc, characters)?),
+            Ok(characters) => Ok(Text::from_str(alloc, characters)?),
             Err(error) => Err(TextFault::BadByte {
                 at: error.valid_up_to(),
             }),

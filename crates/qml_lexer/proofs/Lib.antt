@@ -1,0 +1,15 @@
+pub mod CharacterLemmas
+pub mod FrontLemmas
+pub mod GapLemmas
+pub mod LeadLemmas
+pub mod LengthLemmas
+pub mod LexLemmas
+pub mod LiteralLemmas
+pub mod MarkLemmas
+pub mod NameLemmas
+pub mod NumberLemmas
+pub mod PairLemmas
+pub mod RunLemmas
+pub mod TableLemmas
+pub mod TextLemmas
+pub mod Utf8Lemmas

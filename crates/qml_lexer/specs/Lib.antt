@@ -1,0 +1,13 @@
+pub mod Causes
+pub mod Characters
+pub mod Front
+pub mod Gaps
+pub mod Lex
+pub mod Marks
+pub mod Names
+pub mod Numbers
+pub mod Places
+pub mod Reading
+pub mod Spells
+pub mod Texts
+pub mod Turns
