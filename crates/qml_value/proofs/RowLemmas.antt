@@ -1,6 +1,6 @@
 -- The values inside a list, and those under the names of fields.
-use Rattle.std.proofs.Common.{◌≡◌, ◌∙◌, ap, sym, ℕ, List, [], ◌∷◌, ◌+◌, ◌++◌, max, sum_by, refl, arith}
-use Rattle.qml_value.specs.declared.value.Value.{Value, List as list_value, Fields as fields_value, Undefined, List', Fields', Row_of-Value, end_of-Value, more_of-Value, Row_of-Field, end_of-Field, more_of-Field, items-the_row-Value, items_hidden-the_row-Value-0, items-the_row-Field, items_hidden-the_row-Field-1}
+use Rattle.std.proofs.Common.{◌≡◌, ◌∙◌, ap, sym, List, [], ◌∷◌, ◌+◌, ◌++◌, max, sum_by, refl}
+use Rattle.qml_value.specs.declared.value.Value.{Value, List as list_value, Fields as fields_value, List', Fields', Row_of-Value, end_of-Value, more_of-Value, Row_of-Field, end_of-Field, more_of-Field, items-the_row-Value, items_hidden-the_row-Value-0, items-the_row-Field, items_hidden-the_row-Field-1}
 use Rattle.qml_value.specs.declared.value.Field.{Field}
 use mathlib.Core.Former.{Count}
 use Rattle.std.proofs.lemmas.List.Sums.{sum_by-cons}
@@ -56,3 +56,9 @@ deepest_push xs y = max_push deepest nesting_of refl (λ x xs. refl) xs y
 
 pub deepest_field_push : (xs : List Field) (y : Field) → deepest_field (xs ++ y ∷ []) ≡ max (deepest_field xs) (nesting_of y.value)
 deepest_field_push xs y = max_push deepest_field (λ field. nesting_of field.value) refl (λ x xs. refl) xs y
+
+pub list-injective : (a b : List Value) → list_value a ≡ list_value b → a ≡ b
+list-injective a b e = sym (items_hidden-the_row-Value-0 a) ∙ ap (λ v. items-the_row-Value (row_of v).0 (row_of v).1) e ∙ items_hidden-the_row-Value-0 b
+
+pub fields-injective : (a b : List Field) → fields_value a ≡ fields_value b → a ≡ b
+fields-injective a b e = sym (items_hidden-the_row-Field-1 a) ∙ ap (λ v. items-the_row-Field (field_row_of v).0 (field_row_of v).1) e ∙ items_hidden-the_row-Field-1 b

@@ -1,5 +1,5 @@
 -- Which values may stand in one list.
-use Rattle.std.specs.Prelude.{ℕ, ◌+◌, nat_le, if◌then◌else◌, List, Result, Ok, Err}
+use Rattle.std.specs.Prelude.{◌+◌, nat_le, if◌then◌else◌, List, Result, Ok, Err}
 use Rattle.qml_value.specs.declared.value.Value.{Value}
 use Rattle.qml_value.specs.declared.list.TooDeep.{TooDeep}
 use Rattle.qml_value.specs.Weights.{deepest}

@@ -1,5 +1,5 @@
 -- Which values count as true.
-use Rattle.std.specs.Prelude.{◌≡◌, ◌≢◌, ℤ, pos, [], IsTrue}
+use Rattle.std.specs.Prelude.{◌≢◌, pos, [], IsTrue}
 use Rattle.qml_value.specs.declared.value.Value.{Value, Undefined, Null, Bool, Num, Text, List', Fields', Object, Component}
 
 -- all but undefined, null, false, 0 and the empty text

@@ -5,16 +5,23 @@
 #![tactic(auto)]
 
 mod fields;
+mod laws;
 mod list;
 mod number;
 mod row;
 mod same;
+#[cfg(test)]
+mod tests;
 mod text;
 mod truth;
 mod value;
 mod weight;
 
 pub use fields::PutFault;
+pub use laws::{
+    one_value_under_a_name, parts_make_the_whole, puts_one_value, same_values_measure_the_same,
+    sameness_goes_by_contents, sameness_is_an_equivalence,
+};
 pub use list::{DEEPEST, TooDeep};
 pub use number::{Num, PastLimit};
 pub use row::Row;

@@ -5,7 +5,7 @@ ghost use Rattle.qml_value.specs.Sameness.{Same};
 
 use crate::row::Row;
 use crate::value::{Field, Fields, List, Value};
-use qml_text::NoMemory;
+use qml_base::NoMemory;
 use std::alloc::Global;
 
 impl Value {
@@ -29,9 +29,19 @@ impl Value {
     }
 
     /// A value that is the same.
-    #[cycle(copying)]
     pub fn copy(&self, alloc: Global) -> Result<Value, NoMemory>
         ensures { IfOk result (λ copy. Same copy self.now) }
+    {
+        match self.copied(alloc) {
+            Ok(copy) => Ok(copy),
+            Err(_) => Err(NoMemory),
+        }
+    }
+
+    /// A value that is the same.
+    #[cycle(copying)]
+    fn copied(&self, alloc: Global) -> Result<Value, qml_text::NoMemory>
+        ensures { IfOk result (λ copy. copy ≡ self.now) }
     {
         match self {
             Value::Undefined => Ok(Value::Undefined),
@@ -81,25 +91,25 @@ fn same_fields(a: &[Field], b: &[Field]) -> bool
 
 /// A list of copies.
 #[cycle(copying)]
-fn copy_values(alloc: Global, values: &[Value]) -> Result<List, NoMemory>
+fn copy_values(alloc: Global, values: &[Value]) -> Result<List, qml_text::NoMemory>
     ensures { IfOk result (λ copy. copy ≡ values.now) }
 {
     let mut copy = Vec::with_capacity(alloc, values.len())?;
     'values: for value in values {
-        copy.push(value.copy(alloc)?)?;
+        copy.push(value.copied(alloc)?)?;
     }
     Ok(Row::of_vec(copy))
 }
 
 /// Fields with copies of the names and values.
 #[cycle(copying)]
-fn copy_fields(alloc: Global, fields: &[Field]) -> Result<Fields, NoMemory>
+fn copy_fields(alloc: Global, fields: &[Field]) -> Result<Fields, qml_text::NoMemory>
     ensures { IfOk result (λ copy. copy ≡ fields.now) }
 {
     let mut copy = Vec::with_capacity(alloc, fields.len())?;
     'fields: for field in fields {
         let name = field.name.copy(alloc)?;
-        let value = field.value.copy(alloc)?;
+        let value = field.value.copied(alloc)?;
         copy.push(Field { name, value })?;
     }
     Ok(Row::of_vec(copy))

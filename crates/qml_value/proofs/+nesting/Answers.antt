@@ -1,5 +1,4 @@
-use Rattle.std.proofs.Common.{◌≡◌, min, ◌+◌, ◌^◌, ◌-◌, arith}
-use Rattle.qml_value.specs.Weights.{nesting_of, deepest}
+use Rattle.std.proofs.Common.{arith}
 use Rattle.qml_value.proofs.RowLemmas.{nesting-list, nesting-fields, deepest_push, deepest_field_push}
 use Rattle.std.proofs.lemmas.Grind.{common_steps}
 use Rattle.qml_value.proofs.+nesting.Goals as goal

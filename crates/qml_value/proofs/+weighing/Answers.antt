@@ -1,5 +1,4 @@
-use Rattle.std.proofs.Common.{◌≡◌, min, sum_by, ◌+◌, ◌^◌, ◌-◌, arith}
-use Rattle.qml_value.specs.Weights.{weight_of}
+use Rattle.std.proofs.Common.{arith}
 use Rattle.qml_value.proofs.RowLemmas.{weight-list, weight-fields}
 use Rattle.qml_value.proofs.+weighing.Goals as goal
 

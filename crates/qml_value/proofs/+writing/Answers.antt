@@ -1,6 +1,6 @@
 use Rattle.std.proofs.Common.{◌≡◌, take, map, codes, arith}
 use Rattle.qml_text.specs.Parts.{join_of}
-use Rattle.qml_value.specs.Texts.{text_of, element_text, next_element_text, Writes}
+use Rattle.qml_value.specs.Texts.{element_text, next_element_text}
 use Rattle.qml_value.proofs.TextLemmas.{text-list, elements-written, elements-heavy, part-failed}
 use Rattle.std.proofs.lemmas.Grind.{common_steps}
 use Rattle.qml_value.proofs.+writing.Goals as goal

@@ -1,4 +1,3 @@
-use Rattle.std.proofs.Common.{◌≡◌, arith}
 use Rattle.qml_value.proofs.NamingLemmas.{lacks-more}
 use Rattle.qml_value.proofs.fields.place_of.Goals as goal
 

@@ -1,4 +1,3 @@
-use Rattle.std.proofs.Common.{◌≡◌, arith}
 use Rattle.qml_value.proofs.NamingLemmas.{stands-at}
 use Rattle.qml_value.proofs.fields.Row+Field.get.Goals as goal
 

@@ -1,6 +1,5 @@
-use Rattle.std.proofs.Common.{◌≡◌, arith}
+use Rattle.std.proofs.Common.{arith}
 use Rattle.qml_value.proofs.NamingLemmas.{puts-set, puts-push, distinct-put}
-use Rattle.qml_value.specs.Naming.{Puts}
 use Rattle.qml_value.proofs.fields.Row+Field.put.Goals as goal
 
 pub returns-in-Some-clause-put : goal.returns-in-Some-clause-put
