@@ -7,11 +7,15 @@
 mod cells;
 mod conversion;
 mod kind;
+mod laws;
 mod names;
 mod offers;
 mod places;
 
 pub use conversion::{ConvertFault, convert, default_of};
 pub use kind::{Access, PropKind, Start, TypeNo, TypeRef};
+pub use laws::{
+    converted_values_stay, each_module_offers_a_name_once, names_differ_in_a_type, places_count_up,
+};
 pub use names::lookup;
 pub use places::{Prop, property};
