@@ -1,0 +1,36 @@
+-- Finding a property among the cells of several types.
+use Rattle.std.proofs.Common.{cond, suc, ◌≡◌, ◌≢◌, ◌∙◌, ap, sym, subst, refl, ℕ, List, [], ◌∷◌, ◌++◌, ◌+◌, ◌<◌, ◌&&◌, length, drop, get_or, true, false, Option, Some, None, add-one, drop-cons, arith}
+use Rattle.std.specs.List.{flat_map}
+use Rattle.std.specs.Option.{is_some}
+use Rattle.std.specs.Str.{bytes_eq}
+use Rattle.std.proofs.lemmas.List.Concat.{flat_map-cons}
+use Rattle.qml_types.specs.declared.kind.TypeNo.{TypeNo}
+use Rattle.qml_types.specs.declared.places.Prop.{Prop}
+use Rattle.qml_types.specs.Table.{TypeCell, found, own_cells, is_shown, prop_of}
+
+pub found-past : (xs ys : List TypeCell) (name : List ℕ) → found xs name ≡ None → found (xs ++ ys) name ≡ found ys name
+found-past [] ys name none = refl
+found-past (x ∷ xs) ys name none =
+    elim (is_shown x.access && bytes_eq x.name name) as (λ b. cond b (Some (prop_of x)) (found xs name) ≡ None → cond b (Some (prop_of x)) (found (xs ++ ys) name) ≡ found ys name)
+    [ true ↦ λ e. cc | false ↦ λ e. found-past xs ys name e ] none
+
+pub found-first : (xs ys : List TypeCell) (name : List ℕ) (p : Prop) → found xs name ≡ Some p → found (xs ++ ys) name ≡ Some p
+found-first [] ys name p some = cc
+found-first (x ∷ xs) ys name p some =
+    elim (is_shown x.access && bytes_eq x.name name) as (λ b. cond b (Some (prop_of x)) (found xs name) ≡ Some p → cond b (Some (prop_of x)) (found (xs ++ ys) name) ≡ Some p)
+    [ true ↦ λ e. e | false ↦ λ e. found-first xs ys name p e ] some
+
+opened : (items : List TypeNo) (i : ℕ) (d : TypeNo) → i < length items → flat_map own_cells (drop i items) ≡ own_cells (get_or items i d) ++ flat_map own_cells (drop (i + 1) items)
+opened items i d within = rw (add-one, drop-cons items i d) (flat_map-cons own_cells (get_or items i d) (drop (suc i) items))
+
+pub past-one : (items : List TypeNo) (i : ℕ) (d : TypeNo) (name : List ℕ) (r : Option Prop) → i < length items → r ≡ found (own_cells (get_or items i d)) name → false ≡ is_some r
+    → found (flat_map own_cells (drop i items)) name ≡ found (flat_map own_cells (drop (i + 1) items)) name
+past-one items i d name None within own none =
+    rw (opened items i d within) (found-past (own_cells (get_or items i d)) (flat_map own_cells (drop (i + 1) items)) name (sym own))
+past-one items i d name (Some p) within own none = cc
+
+pub in-one : (items : List TypeNo) (i : ℕ) (d : TypeNo) (name : List ℕ) (r : Option Prop) → i < length items → r ≡ found (own_cells (get_or items i d)) name → true ≡ is_some r
+    → r ≡ found (flat_map own_cells (drop i items)) name
+in-one items i d name None within own some = cc
+in-one items i d name (Some p) within own some =
+    rw (opened items i d within) (sym (found-first (own_cells (get_or items i d)) (flat_map own_cells (drop (i + 1) items)) name p (sym own)))

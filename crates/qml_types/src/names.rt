@@ -1,0 +1,26 @@
+//! Finding a type by its module and name.
+
+ghost use Rattle.std.specs.Prelude.{◌≡◌, map};
+ghost use Rattle.qml_types.specs.Table.{offered, offers, offer_of};
+
+use crate::kind::TypeNo;
+use crate::offers::{OFFERS, Offer};
+
+/// The type of this name in this module, and None exactly where the module isn't there or has no such name.
+pub fn lookup(module: &str, name: &str) -> Option<TypeNo>
+    ensures { result ≡ offered offers module.now name.now }
+{
+    offered_in(&OFFERS, module, name)
+}
+
+/// The type that the first of these offers for the module and name gives.
+fn offered_in(rows: &[Offer], module: &str, name: &str) -> Option<TypeNo>
+    ensures { result ≡ offered (map offer_of rows.now) module.now name.now }
+{
+    'rows: for row in rows {
+        if row.0 == module && row.1 == name {
+            return Some(row.2);
+        }
+    }
+    None
+}

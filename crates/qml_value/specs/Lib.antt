@@ -1,0 +1,9 @@
+pub mod formers
+pub mod Numbers
+pub mod Kinds
+pub mod Weights
+pub mod Sameness
+pub mod Truth
+pub mod Texts
+pub mod Lists
+pub mod Naming

@@ -1,0 +1,30 @@
+//! The values of the language: what a property holds and what an expression gives. Each rule on them is promised exactly:
+//! whole numbers up to 2^53 in magnitude (`specs/Numbers.antt`), which values are the same, how heavy and how deeply
+//! nested one is (`specs/Weights.antt`), its text (`specs/Texts.antt`), what counts as true, and fields with distinct
+//! names (`specs/Naming.antt`). Want of memory is the only free answer.
+#![tactic(auto)]
+
+mod fields;
+mod laws;
+mod list;
+mod number;
+mod row;
+mod same;
+#[cfg(test)]
+mod tests;
+mod text;
+mod truth;
+mod value;
+mod weight;
+
+pub use fields::PutFault;
+pub use laws::{
+    one_value_under_a_name, parts_make_the_whole, puts_one_value, same_values_measure_the_same,
+    sameness_goes_by_contents, sameness_is_an_equivalence,
+};
+pub use list::{DEEPEST, TooDeep};
+pub use number::{Num, PastLimit};
+pub use row::Row;
+pub use text::TextOfFault;
+pub use value::{Field, Fields, Kind, List, Value};
+pub use weight::{HEAVIEST, MOST_NESTED};
