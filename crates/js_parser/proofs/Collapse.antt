@@ -131,19 +131,19 @@ collapse f e whole n c one top same fs rest h = same_go _ _ rest (ap held_whole 
 
 -- ---- the four frames
 
-open_signed : (back : List Sign) (h : Prefix) (p : Place) (ss : Signs) (e : Expr) → is_open (signed_onto back h p ss e) ≡ is_open e
+pub open_signed : (back : List Sign) (h : Prefix) (p : Place) (ss : Signs) (e : Expr) → is_open (signed_onto back h p ss e) ≡ is_open e
 open_signed [] h p ss e = refl
 open_signed (s ∷ back) h p ss e = open_signed back s.0 s.1 (a_sign h p ss) e
 
-open_chain : (a : Expr) (back : List Link) (op : Operator) (p : Place) (d : Expr) (ls : Links) → is_open (chain_onto a back op p d ls) ≡ last_open (is_open d) ls
+pub open_chain : (a : Expr) (back : List Link) (op : Operator) (p : Place) (d : Expr) (ls : Links) → is_open (chain_onto a back op p d ls) ≡ last_open (is_open d) ls
 open_chain a [] op p d ls = refl
 open_chain a (l ∷ back) op p d ls = open_chain a back l.0 l.1 l.2 (a_link op p d ls)
 
-open_choose : (back : List Choice) (c e : Expr) (cs : Choices) (d : Expr) → is_open (choose_onto back c e cs d) ≡ is_open d
+pub open_choose : (back : List Choice) (c e : Expr) (cs : Choices) (d : Expr) → is_open (choose_onto back c e cs d) ≡ is_open d
 open_choose [] c e cs d = refl
 open_choose (x ∷ back) c e cs d = open_choose back x.0 x.1 (a_choice c e cs) d
 
-open_assign : (back : List Target) (t : Expr) (h : Assignment) (p : Place) (ts : Targets) (v : Expr) → is_open (assign_onto back t h p ts v) ≡ is_open v
+pub open_assign : (back : List Target) (t : Expr) (h : Assignment) (p : Place) (ts : Targets) (v : Expr) → is_open (assign_onto back t h p ts v) ≡ is_open v
 open_assign [] t h p ts v = refl
 open_assign (x ∷ back) t h p ts v = open_assign back x.0 x.1 x.2 (a_target t h p ts) v
 

@@ -21,7 +21,7 @@ use Rattle.js_parser.specs.Frames.{Field, Link, Choice, Target, Var, exprs_onto,
 use Rattle.js_parser.specs.Machine.{joins, updates, bumps, question, dot, colon, closes, shuts, comma, semicolon, brace, role_of, takes, looping, held, closed_at, with_question, with_colon, with_update, on_need, on_key, on_begin, on_dotted, on_did, on_function, at_function, on_name, on_named, on_first, on_test, on_next, on_jump, on_role, on_alone, step, finish, Outcome, go, ends_line}
 use Rattle.js_parser.proofs.Tokens.{two_le_level, level_le_twelve, above_level, both, operator_role, assignment_role, postfix_role, operator_stays, assignment_stays, question_stays, dot_stays, colon_stays, paren_stays, bracket_stays, comma_stays, semi_stays, ends_not_on_line}
 use Rattle.js_parser.proofs.Collapse.{Ends, ends_kind, more_ends, loose_ends, then_go, same_go, have_step, have_role, collapse_sign, collapse_chain, collapse_else, collapse_assign, collapse_steps, open_stepped}
-use Rattle.js_parser.proofs.Places.{takes_up, takes_high, sign_takes, target_tight, then_operator, more_chain, then_question, then_update, then_sign, need_sign, need_literal, key_step, begin_declaration, first_declaration, expect_go}
+use Rattle.js_parser.proofs.Places.{takes_up, sign_takes, target_tight, then_operator, more_chain, then_question, then_update, then_sign, need_sign, need_literal, key_step, begin_declaration, first_declaration, expect_go}
 use Rattle.js_parser.proofs.Starts.{starts, begins, firsts, tests, nexts, gives}
 use Rattle.js_parser.proofs.Closes.{close_ends, close_go, named_go, alone_go, when_go, Lists, list_go, blocks, functions, else_step}
 use Rattle.js_parser.proofs.Signs.{signs_go, links_ends, step_ends, then_dot, then_paren, then_bracket, Holds, items, args, EndsAny, list_any, list_none, list_some, fields_any, fields_none, fields_some}
@@ -91,12 +91,12 @@ mutual
       let one = then_go (need fs) t b (at_key t.place [] fs) (ap (on_need fs t.place) q) in
       one ∙ fields_go hs t.place fs [] (fields_any ht s) (go rest (have (fields t.place gs c) [] fs)) (λ e. fields_empty e ht s t.place fs) (λ y n r d back e. fields_some ht s t.place back y n r d fs ∙ ap (λ z. go rest (have (fields t.place z c) [] fs)) e)
   reads_go (r_steps {e = e} {s = s} {ss = ss} {b = b} {rest = rest} r tight hs more) fs h x =
-      let one = reads_go r fs (takes_high fs (tightness e) (omega arith)) (step_ends hs (tightness e) (is_open e) (omega arith)) in
+      let one = reads_go r fs (takes_up fs 15 (tightness e) h (omega arith) (omega arith)) (step_ends hs (tightness e) (is_open e) (omega arith)) in
       let two = step_go hs e [] fs tight refl in
       one ∙ two ∙ steps_go more e s [] fs tight refl x
   reads_go (r_bumped {e = e} {i = i} r target line (a_token {t = t} {rest = rest} q)) fs h x =
       let high = target_tight e target in
-      let one = reads_go r fs (takes_high fs (tightness e) high) (ends_kind t (k.Mark (postfix_mark i)) (bumps i) (tightness e) (is_open e) q (postfix_role i) high) in
+      let one = reads_go r fs (takes_up fs 14 (tightness e) h (omega arith) (omega arith)) (ends_kind t (k.Mark (postfix_mark i)) (bumps i) (tightness e) (is_open e) q (postfix_role i) high) in
       let two = have_role e [] fs t (bumps i) (ends_not_on_line (last_of (is_open e)) t line) (ap role_of q ∙ postfix_role i) in
       let three = ap (λ (v : Bool). if v then Some (have (bumped e i t.place) [] fs) else None) (both (is_target e) (takes fs 14) target h) in
       one ∙ then_go (have e [] fs) t rest (have (bumped e i t.place) [] fs) (two ∙ three)
@@ -117,7 +117,7 @@ mutual
       one ∙ two ∙ three ∙ four ∙ choices_go hc [] c e fs (go rest (have (choose c e cs d) [] fs)) (λ back c' e' eq. reads_go v (in_else back c' e' ∷ fs) (not_one (tightness d) ne) (loose_ends rest 1 (tightness d) (is_open d) (omega arith) x) ∙ collapse_else back c' e' d fs rest x ∙ ap (λ z. go rest (have z [] fs)) (eq d))
   reads_go (r_assign {t = l} {v = v} {g = g} {ts = ts} {c = c} {rest = rest} r target (a_token {t = t} q) ht s tight) fs h x =
       let high = target_tight l target in
-      let one = reads_go r fs (takes_high fs (tightness l) high) (ends_kind t (k.Mark (assignment_mark g)) (updates g) (tightness l) (is_open l) q (assignment_role g) high) in
+      let one = reads_go r fs (takes_up fs 0 (tightness l) h (omega arith) (omega arith)) (ends_kind t (k.Mark (assignment_mark g)) (updates g) (tightness l) (is_open l) q (assignment_role g) high) in
       let two = then_go (have l [] fs) t c (need (in_assign [] l g t.place ∷ fs)) (have_step l [] fs t (k.Mark (assignment_mark g)) (updates g) q (assignment_stays g) (assignment_role g) ∙ then_update fs g t.place l h target) in
       one ∙ two ∙ targets_go ht [] l g t.place fs (go rest (have (assign l g t.place ts v) [] fs)) (λ back t' g' p' eq. reads_go s (in_assign back t' g' p' ∷ fs) (le-leb 1 (tightness v) tight) (loose_ends rest 0 (tightness v) (is_open v) (omega arith) x) ∙ collapse_assign back t' g' p' v fs rest x ∙ ap (λ z. go rest (have z [] fs)) (eq v))
 

@@ -5,3 +5,5 @@ pub mod Starts
 pub mod Closes
 pub mod Signs
 pub mod Complete
+pub mod Opened
+pub mod Left

@@ -30,7 +30,7 @@ bump_at_most : (b : Bool) → (if b then 15 else 14) ≤ 15
 bump_at_most true = omega arith
 bump_at_most false = omega arith
 
-bump_at_least : (b : Bool) → 14 ≤ (if b then 15 else 14)
+pub bump_at_least : (b : Bool) → 14 ≤ (if b then 15 else 14)
 bump_at_least true = omega arith
 bump_at_least false = omega arith
 
@@ -39,14 +39,15 @@ takes_up (in_sign back h p ∷ fs) i n t u w = let a : (if is_bump h then 15 els
 takes_up (in_chain a back op p ∷ fs) i n t u w = let b : operand op ≤ i = leb-true (operand op) i t in le-leb (operand op) n (omega arith)
 takes_up (in_else back c e ∷ fs) i n t u w = ap not (ne_eqb n 1 (λ q. omega arith))
 takes_up (in_assign back t h p ∷ fs) i n s u w = le-leb 1 n (omega arith)
-takes_up _ i n t u w = refl
+takes_up _ i n t u w = t
 
-pub takes_high : (fs : Frames) (n : ℕ) → 15 ≤ n → takes fs n ≡ true
-takes_high (in_sign back h p ∷ fs) n w = le-leb (if is_bump h then 15 else 14) n (omega (arith, bump_at_most (is_bump h)))
-takes_high (in_chain a back op p ∷ fs) n w = le-leb (operand op) n (omega (arith, operand_le_thirteen op))
-takes_high (in_else back c e ∷ fs) n w = ap not (ne_eqb n 1 (λ q. omega arith))
-takes_high (in_assign back t h p ∷ fs) n w = le-leb 1 n (omega arith)
-takes_high _ n w = refl
+-- where a primary may stand, so may one with steps, and a prefix but behind another
+pub takes_steps : (fs : Frames) → takes fs 16 ≡ true → takes fs 15 ≡ true
+takes_steps (in_sign back h p ∷ fs) t = le-leb (if is_bump h then 15 else 14) 15 (bump_at_most (is_bump h))
+takes_steps (in_chain a back op p ∷ fs) t = le-leb (operand op) 15 (omega (arith, operand_le_thirteen op))
+takes_steps (in_else back c e ∷ fs) t = refl
+takes_steps (in_assign back c h p ∷ fs) t = refl
+takes_steps _ t = t
 
 pub sign_takes : (h : Prefix) (n : ℕ) (target : Bool) → 14 ≤ n → (target ≡ true → 15 ≤ n) → (not (is_bump h) || target) ≡ true → nat_le (if is_bump h then 15 else 14) n ≡ true
 sign_takes h n target a b q = by (is_bump h) q

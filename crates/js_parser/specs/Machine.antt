@@ -119,12 +119,20 @@ ends_alone t = is_brace t.what || t.after_line
 
 -- ---- frames
 
--- a tree of this tightness may stand in the innermost frame
+-- an expression of this tightness may stand in the innermost frame
 abbrev pub takes : Frames → ℕ → Bool
 takes (in_sign back h p ∷ fs) n = nat_le (if is_bump h then 15 else 14) n
 takes (in_chain e back op p ∷ fs) n = nat_le (operand op) n
 takes (in_else back c e ∷ fs) n = not (n == 1)
 takes (in_assign back t h p ∷ fs) n = nat_le 1 n
+takes (in_one ∷ fs) n = false
+takes (in_list ss ∷ fs) n = false
+takes (in_when p c ∷ fs) n = false
+takes (in_either p c s ∷ fs) n = false
+takes (in_loop p c ∷ fs) n = false
+takes (in_for p i e f ∷ fs) n = false
+takes (in_block p ss ∷ fs) n = false
+takes (in_function e st p ss ∷ fs) n = false
 takes _ n = true
 
 -- a statement may stand in the innermost frame
