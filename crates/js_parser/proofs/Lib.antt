@@ -7,3 +7,4 @@ pub mod Signs
 pub mod Complete
 pub mod Opened
 pub mod Left
+pub mod Sound

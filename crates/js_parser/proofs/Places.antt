@@ -149,3 +149,10 @@ first_declaration p fs q _ = refl
 
 pub expect_go : (x : Mark) (next : State) (t : Token) (a : List Token) → t.what ≡ k.Mark x → is_mark x (k.Mark x) ≡ true → go (t ∷ a) (expects x next) ≡ go a next
 expect_go x next t a q h = then_go (expects x next) t a next (ap (λ (b : Bool). if b then Some next else None) (ap (is_mark x) q ∙ h))
+
+pub takes_sign : (fs : Frames) → takes fs 16 ≡ true → ((back : List Sign) (h : Prefix) (p : Place) (gs : Frames) → fs ≡ in_sign back h p ∷ gs → ⊥) → takes fs 13 ≡ true
+takes_sign (in_sign back h p ∷ fs) t n = absurd (n back h p fs refl)
+takes_sign (in_chain a back op p ∷ fs) t n = le-leb (operand op) 13 (omega (arith, operand_le_thirteen op))
+takes_sign (in_else back c e ∷ fs) t n = refl
+takes_sign (in_assign back c h p ∷ fs) t n = refl
+takes_sign _ t n = t
