@@ -8,3 +8,4 @@ pub mod Complete
 pub mod Opened
 pub mod Left
 pub mod Sound
+pub mod Steps
