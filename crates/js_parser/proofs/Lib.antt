@@ -9,3 +9,5 @@ pub mod Opened
 pub mod Left
 pub mod Sound
 pub mod Steps
+pub mod Endings
+pub mod Exact

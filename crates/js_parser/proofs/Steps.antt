@@ -109,7 +109,7 @@ semi_reads y ready _ s rest t next q r w = cc
 
 -- ---- a statement that ends before a token
 
-last_onto : (back : List Var) (vs : Vars) → last_vars (vars_onto back vs) ≡ last_vars vs
+pub last_onto : (back : List Var) (vs : Vars) → last_vars (vars_onto back vs) ≡ last_vars vs
 last_onto [] vs = refl
 last_onto (v ∷ back) vs = last_onto back (a_var v.0 v.1 v.2 vs)
 
@@ -136,7 +136,7 @@ stepped_high : (e : Expr) (ss : List Step) → tightness e ≡ 16 → 15 ≤ tig
 stepped_high e [] h = omega arith
 stepped_high e (i ∷ back) h = omega (arith, stepped_tight e i back)
 
-takes_all : (fs : Frames) (e : Expr) (ss : List Step) → tightness e ≡ 16 → takes fs (tightness (stepped e ss)) ≡ true → takes fs 16 ≡ true
+pub takes_all : (fs : Frames) (e : Expr) (ss : List Step) → tightness e ≡ 16 → takes fs (tightness (stepped e ss)) ≡ true → takes fs 16 ≡ true
 takes_all fs e [] h t = ap (takes fs) (sym h) ∙ t
 takes_all fs e (i ∷ back) h t = takes_up fs 15 16 (ap (takes fs) (sym (stepped_tight e i back)) ∙ t) (omega arith) (omega arith)
 
@@ -214,7 +214,7 @@ on_alone_reads y make fs s a b rest t next so l g reads others w =
           inl d ↦ moved y s rest (some_state (sym (ap Q d) ∙ v)) (a, l, g, reads semi rest (b_semi line (seen (semi_is t.what d))))
         | inr d ↦ others line (sym (ap Q d) ∙ v) ] ]
 
-jump_stmt : (j : Jump) (p : Place) (looped : Bool) (c : Close) (a b rest : List Token) → looped ≡ true → One (jump_kind j) p a b → ClosesAlone c b rest → ReadsStmt looped (jump j p c) a rest
+pub jump_stmt : (j : Jump) (p : Place) (looped : Bool) (c : Close) (a b rest : List Token) → looped ≡ true → One (jump_kind j) p a b → ClosesAlone c b rest → ReadsStmt looped (jump j p c) a rest
 jump_stmt breaks p looped c a b rest lp one close = let P : Bool → Type 0 = λ z. ReadsStmt z (stop p c) a rest in subst P (sym lp) (s_stop one close)
 jump_stmt continues p looped c a b rest lp one close = let P : Bool → Type 0 = λ z. ReadsStmt z (again p c) a rest in subst P (sym lp) (s_again one close)
 

@@ -1,12 +1,37 @@
 //! Laws of the definitions, each as the contract of a call that does nothing.
 
-ghost use Rattle.std.specs.Prelude.{◌≡◌};
-ghost use Rattle.js_parser.specs.Frames.{State};
-ghost use Rattle.js_parser.specs.Machine.{go};
+ghost use Rattle.std.specs.Prelude.{◌≡◌, false, List, []};
+ghost use Rattle.qml_syntax.specs.declared.token.Token.{Token};
+ghost use Rattle.qml_syntax.specs.Tree.{Expr, Stmt, Stmts};
+ghost use Rattle.qml_syntax.specs.Reads.{Reads, ReadsStmt, ReadsStmts};
+ghost use Rattle.js_parser.specs.Machine.{Entry, go, start_of};
 ghost use Rattle.js_parser.specs.Answer.{IsAnswer};
 
-/// Nothing.
-pub fn nothing_yet()
-    ensures { (s : State) → s ≡ s }
+/// At most one expression reads given tokens.
+#[tactic(auto, using(crate::proofs::Exact::one_expression))]
+pub fn one_expression()
+    ensures { (tokens : List Token) (d e : Expr) → Reads d tokens [] → Reads e tokens [] → d ≡ e }
+{
+}
+
+/// At most one statement reads given tokens.
+#[tactic(auto, using(crate::proofs::Exact::one_statement))]
+pub fn one_statement()
+    ensures { (tokens : List Token) (d e : Stmt) → ReadsStmt false d tokens [] → ReadsStmt false e tokens [] → d ≡ e }
+{
+}
+
+/// At most one list of statements reads given tokens.
+#[tactic(auto, using(crate::proofs::Exact::one_body))]
+pub fn one_body()
+    ensures { (tokens : List Token) (d e : Stmts) → ReadsStmts false d tokens [] → ReadsStmts false e tokens [] → d ≡ e }
+{
+}
+
+/// The machine stops at the first token with which no read prefix goes on, and gives the tree that reads the tokens
+/// before it, or none where no tree does.
+#[tactic(auto, using(crate::proofs::Exact::exact))]
+pub fn machine_is_exact()
+    ensures { (y : Entry) (tokens : List Token) → IsAnswer y tokens (go tokens (start_of y)).tree (go tokens (start_of y)).rest }
 {
 }
