@@ -1,5 +1,5 @@
 -- How statements end, and how lists of statements go on.
-use Rattle.std.proofs.Common.{◌≡◌, ℕ, ◌≤◌, Bool, true, false, not, ◌&&◌, ◌||◌, List, [], ◌∷◌, Option, Some, None, refl, sym, ap, ◌∙◌, arith, subst, inl, inr, ◌⊎◌}
+use Rattle.std.proofs.Common.{◌≡◌, ℕ, Bool, true, false, ◌||◌, List, [], ◌∷◌, Option, Some, None, refl, sym, ap, ◌∙◌, subst, inl, inr}
 use Rattle.std.specs.Prelude.{if◌then◌else◌}
 use Rattle.qml_base.specs.declared.numbers.Place.{Place}
 use Rattle.qml_syntax.specs.declared.token.TokenKind.{TokenKind}
@@ -9,13 +9,13 @@ use Rattle.qml_syntax.specs.declared.word.Word.TheVariants as w
 use Rattle.qml_syntax.specs.declared.token.Token.{Token}
 use Rattle.qml_syntax.specs.declared.operators.Assignment.TheVariants as u
 use Rattle.qml_syntax.specs.declared.literal.Declaration.{Declaration}
-use Rattle.qml_syntax.specs.Tree.{Units, Close, semi, auto, Expr, Step, Stmt, Stmts, no_stmts, expr, give, declare, when, either, last_var, Maybe, nothing, just}
-use Rattle.qml_syntax.specs.Levels.{tightness, is_open}
-use Rattle.qml_syntax.specs.Ends.{Last, bare, last_of, goes_on, Sees, seen, OnLine, Lacks, EndsBefore, MayEnd, ReadsClose, c_semi, c_auto, AloneBefore, EndsAlone, ClosesAlone, b_semi, b_auto}
-use Rattle.js_parser.specs.Frames.{Var, vars_onto, stmts_onto, Where, in_body, in_header, Frame, in_list, in_block, in_function, in_expr, in_give, in_value, in_when, in_either, Frames, Jump, State, need, have, begin, did, at_give, at_jump, named, at_test}
-use Rattle.js_parser.specs.Machine.{Role, joins, updates, bumps, question, dot, calls, indexes, colon, closes, shuts, comma, semicolon, brace, other, role_of, is_brace, is_semi, is_else, ends_line, ends_alone, Held, held, closed_at, Placed, over, on_begin, on_placed, on_else, on_did, with_semi, with_end, with_brace, on_role, on_have, on_alone, named_end, on_named, step, finish, held_whole, list_whole, placed_whole, Whole, Outcome, go_on, go}
-use Rattle.js_parser.proofs.Tokens.{both, true_or_false, or_left, or_right, role_fits, semi_stays, brace_stays, ends_yes, else_is, else_not}
-use Rattle.js_parser.proofs.Collapse.{EndsAt, EndsBy, Ends, ends_kind, then_go, same_go, have_step}
+use Rattle.qml_syntax.specs.Tree.{Units, Close, semi, auto, Expr, Step, Stmt, declare, when, last_var, nothing}
+use Rattle.qml_syntax.specs.Levels.{is_open}
+use Rattle.qml_syntax.specs.Ends.{Last, bare, last_of, goes_on, seen, Lacks, EndsBefore, MayEnd, ReadsClose, c_semi, c_auto, AloneBefore, EndsAlone, ClosesAlone, b_semi, b_auto}
+use Rattle.js_parser.specs.Frames.{Var, vars_onto, Where, in_body, Frame, in_list, in_block, in_function, in_when, in_either, Frames, State, have, begin, did, named}
+use Rattle.js_parser.specs.Machine.{Role, updates, comma, semicolon, brace, role_of, is_brace, is_semi, is_else, ends_line, ends_alone, Held, held, closed_at, over, on_begin, on_placed, on_else, on_did, with_semi, with_end, with_brace, on_role, on_alone, named_end, on_named, step, finish, held_whole, list_whole, placed_whole, go}
+use Rattle.js_parser.proofs.Tokens.{true_or_false, or_left, or_right, role_fits, semi_stays, brace_stays, ends_yes, else_is, else_not}
+use Rattle.js_parser.proofs.Collapse.{Ends, ends_kind, then_go, same_go, have_step}
 
 -- ---- an expression in a frame that makes a statement of it
 
@@ -110,8 +110,9 @@ pub record Lists (wrap : List Stmt → Frame) : Type 0 where
 list_step : (wrap : List Stmt → Frame) (s : Stmt) (back : List Stmt) (fs : Frames) → Lists wrap → (t : Token) → on_did s (wrap back ∷ fs) t ≡ on_begin (wrap (s ∷ back) ∷ fs) t.place t.what
 list_step wrap s back fs l t =
     elim (true_or_false (is_else t.what)) [
-      inl h ↦ ap (λ (v : Bool). if v then on_else (wrap back ∷ fs) s else on_placed (over (wrap back ∷ fs) s) t.place t.what) h ∙ l.elses s back fs ∙ sym (ap (on_begin (wrap (s ∷ back) ∷ fs) t.place) (else_is t.what h))
-    | inr h ↦ ap (λ (v : Bool). if v then on_else (wrap back ∷ fs) s else on_placed (over (wrap back ∷ fs) s) t.place t.what) h ∙ l.next s back fs t.place t.what ]
+      | inl h ↦ ap (λ (v : Bool). if v then on_else (wrap back ∷ fs) s else on_placed (over (wrap back ∷ fs) s) t.place t.what) h ∙ l.elses s back fs ∙ sym (ap (on_begin (wrap (s ∷ back) ∷ fs) t.place) (else_is t.what h))
+      | inr h ↦ ap (λ (v : Bool). if v then on_else (wrap back ∷ fs) s else on_placed (over (wrap back ∷ fs) s) t.place t.what) h ∙ l.next s back fs t.place t.what
+    ]
 
 pub list_go : (wrap : List Stmt → Frame) (s : Stmt) (back : List Stmt) (fs : Frames) (rest : List Token) → Lists wrap → go rest (did s (wrap back ∷ fs)) ≡ go rest (begin (wrap (s ∷ back) ∷ fs))
 list_go wrap s back fs rest l = same_go (did s (wrap back ∷ fs)) (begin (wrap (s ∷ back) ∷ fs)) rest (l.ends s back fs) (λ x xs q. list_step wrap s back fs l x)

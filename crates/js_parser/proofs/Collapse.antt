@@ -1,20 +1,18 @@
 -- What may come behind an expression ends it: open parts close as the whole that they give.
-use Rattle.std.proofs.Common.{◌≡◌, ℕ, ◌≤◌, ◌<◌, Bool, true, false, not, ◌&&◌, ◌||◌, List, [], ◌∷◌, Option, Some, None, refl, sym, ap, ◌∙◌, arith, suc, subst, inl, inr, ◌⊎◌, le-leb, eq-eqb}
-use Rattle.std.specs.Prelude.{nat_le, nat_lt, ◌==◌, if◌then◌else◌}
-use Rattle.std.proofs.lemmas.Bool.{lt-leb, leb-true, ne_eqb, lt-ltb, le-ltb}
+use Rattle.std.proofs.Common.{◌≡◌, ℕ, ◌≤◌, ◌<◌, Bool, true, false, not, ◌||◌, List, [], ◌∷◌, Option, Some, refl, sym, ap, ◌∙◌, arith, suc, subst, inl, inr, ◌⊎◌, eq-eqb}
+use Rattle.std.specs.Prelude.{◌==◌, if◌then◌else◌}
+use Rattle.std.proofs.lemmas.Bool.{lt-ltb}
 use Rattle.qml_base.specs.declared.numbers.Place.{Place}
 use Rattle.qml_syntax.specs.declared.token.TokenKind.{TokenKind}
-use Rattle.qml_syntax.specs.declared.token.TokenKind.TheVariants as k
-use Rattle.qml_syntax.specs.declared.mark.Mark.TheVariants as m
 use Rattle.qml_syntax.specs.declared.token.Token.{Token}
 use Rattle.qml_syntax.specs.declared.operators.Operator.{Operator}
 use Rattle.qml_syntax.specs.declared.operators.Prefix.{Prefix}
 use Rattle.qml_syntax.specs.declared.operators.Assignment.{Assignment}
 use Rattle.qml_syntax.specs.Tree.{Expr, name, number, text, literal, paren, list, fields, steps, bumped, signed, chain, choose, assign, Step, Steps, no_steps, a_step, Signs, no_signs, a_sign, Links, no_links, a_link, Choices, no_choices, a_choice, Targets, no_targets, a_target}
-use Rattle.qml_syntax.specs.Levels.{level, operand, tightness, is_target, is_bump, is_open, last_open}
-use Rattle.qml_syntax.specs.Ends.{last_of, goes_on}
-use Rattle.js_parser.specs.Frames.{Sign, Link, Choice, Target, stepped, steps_onto, signed_onto, chain_onto, choose_onto, assign_onto, Frame, in_sign, in_chain, in_else, in_assign, Frames, State, need, have}
-use Rattle.js_parser.specs.Machine.{Role, joins, updates, bumps, question, dot, calls, indexes, colon, closes, shuts, comma, semicolon, brace, other, role_of, ends_line, takes, Held, held, closed_at, with_operator, with_question, with_colon, with_paren, with_bracket, with_comma, with_semi, with_brace, with_end, on_role, on_have, step, finish, held_whole, Whole, Outcome, go_on, go}
+use Rattle.qml_syntax.specs.Levels.{level, tightness, is_target, is_bump, is_open, last_open}
+use Rattle.qml_syntax.specs.Ends.{last_of}
+use Rattle.js_parser.specs.Frames.{Sign, Link, Choice, Target, stepped, steps_onto, signed_onto, chain_onto, choose_onto, assign_onto, Frame, in_sign, in_chain, in_else, in_assign, Frames, State, have}
+use Rattle.js_parser.specs.Machine.{Role, joins, updates, bumps, question, dot, calls, indexes, colon, closes, shuts, comma, semicolon, brace, other, role_of, ends_line, Held, closed_at, with_operator, with_question, with_colon, with_paren, with_bracket, with_comma, with_semi, with_brace, with_end, on_role, on_have, step, finish, held_whole, go}
 use Rattle.js_parser.proofs.Tokens.{two_le_level, level_le_twelve, Stays, ends_no}
 
 -- ---- steps of the whole reading

@@ -1,25 +1,23 @@
 -- What a tree reads, the machine reads as that tree.
-use Rattle.std.proofs.Common.{◌≡◌, ℕ, ◌≤◌, Bool, true, false, not, ◌&&◌, ◌||◌, List, [], ◌∷◌, Option, Some, None, refl, sym, ap, ◌∙◌, arith, subst, suc, inl, inr, ◌⊎◌, le-leb}
-use Rattle.std.specs.Prelude.{if◌then◌else◌, nat_le, ◌==◌}
+use Rattle.std.proofs.Common.{◌≡◌, ℕ, ◌≤◌, Bool, true, not, List, [], ◌∷◌, Some, None, refl, sym, ap, ◌∙◌, arith, subst, le-leb}
+use Rattle.std.specs.Prelude.{if◌then◌else◌, ◌==◌}
 use Rattle.std.proofs.lemmas.Bool.{ne_eqb}
 use Rattle.qml_base.specs.declared.numbers.Place.{Place}
-use Rattle.qml_syntax.specs.declared.token.TokenKind.{TokenKind}
 use Rattle.qml_syntax.specs.declared.token.TokenKind.TheVariants as k
 use Rattle.qml_syntax.specs.declared.mark.Mark.TheVariants as m
 use Rattle.qml_syntax.specs.declared.word.Word.TheVariants as w
 use Rattle.qml_syntax.specs.declared.token.Token.{Token}
 use Rattle.qml_syntax.specs.declared.operators.Operator.{Operator}
-use Rattle.qml_syntax.specs.declared.operators.Prefix.{Prefix}
 use Rattle.qml_syntax.specs.declared.operators.Assignment.{Assignment}
 use Rattle.qml_syntax.specs.declared.literal.Declaration.{Declaration}
 use Rattle.qml_syntax.specs.Spelling.{operator_mark, postfix_mark, assignment_mark}
-use Rattle.qml_syntax.specs.Tree.{Units, Close, semi, auto, Expr, name, number, text, literal, paren, list, fields, steps, bumped, signed, chain, choose, assign, Exprs, no_exprs, an_expr, Fields, no_fields, a_field, Step, member, element, call, binding, Steps, Signs, no_signs, Links, no_links, Choices, no_choices, Targets, no_targets, Stmt, empty, expr, block, declare, when, either, while, for, give, stop, again, Stmts, no_stmts, Vars, last_var, Maybe, nothing, just, First, no_first, first_expr, first_declare}
-use Rattle.qml_syntax.specs.Levels.{level, operand, tightness, is_target, is_bump, signs_fit, is_open, last_open, Reached, at_binding, start, beyond}
-use Rattle.qml_syntax.specs.Ends.{One, a_token, Sees, seen, last_of, last_vars, bare, Last}
+use Rattle.qml_syntax.specs.Tree.{Units, Expr, name, number, text, literal, paren, list, fields, bumped, signed, choose, assign, Exprs, no_exprs, an_expr, Fields, no_fields, a_field, Step, member, element, call, binding, Steps, Links, Choices, no_choices, Targets, no_targets, Stmt, empty, expr, block, declare, either, while, for, give, stop, again, Stmts, no_stmts, Vars, last_var, Maybe, nothing, just, First, no_first, first_expr, first_declare}
+use Rattle.qml_syntax.specs.Levels.{level, operand, tightness, is_target, is_open, last_open, Reached, at_binding, beyond}
+use Rattle.qml_syntax.specs.Ends.{a_token, Sees, seen, last_of, last_vars, bare}
 use Rattle.qml_syntax.specs.Reads.{some_exprs, some_fields, Reads, r_name, r_number, r_text, r_literal, r_paren, r_list, r_fields, r_steps, r_bumped, r_signed, r_chain, r_choose, r_assign, ReadsExprs, e_none, e_last, e_more, ReadsFields, f_none, f_last, f_more, Trails, ReadsStep, p_member, p_element, p_call, p_binding, ReadsSteps, p_none, p_more, ReadsLinks, l_none, l_more, ReadsChoices, h_none, h_more, ReadsTargets, t_none, t_more, ReadsStmt, s_empty, s_expr, s_block, s_declare, s_when, s_either, s_while, s_for, s_give, s_give_value, s_stop, s_again, ReadsStmts, ss_none, ss_more, ReadsVars, v_last, v_more, i_none, i_value, ReadsMaybe, y_none, y_some, ReadsFirst, z_none, z_expr, z_declare}
-use Rattle.js_parser.specs.Frames.{Field, Link, Choice, Target, Var, exprs_onto, fields_onto, steps_onto, stepped, reached, signed_onto, chain_onto, choose_onto, assign_onto, vars_onto, stmts_onto, Where, in_body, in_header, Frame, in_paren, in_items, in_field, in_args, in_element, in_sign, in_chain, in_then, in_else, in_assign, in_expr, in_give, in_value, in_if, in_while, in_first, in_test, in_next, in_when, in_either, in_loop, in_for, in_block, in_function, Frames, breaks, continues, State, need, have, dotted, at_key, begin, did, at_give, at_jump, at_name, named, at_first, at_test, at_next, expects}
-use Rattle.js_parser.specs.Machine.{joins, updates, bumps, question, dot, colon, closes, shuts, comma, semicolon, brace, role_of, takes, looping, held, closed_at, with_question, with_colon, with_update, on_need, on_key, on_begin, on_dotted, on_did, on_function, at_function, on_name, on_named, on_first, on_test, on_next, on_jump, on_role, on_alone, step, finish, Outcome, go, ends_line}
-use Rattle.js_parser.proofs.Tokens.{two_le_level, level_le_twelve, above_level, both, operator_role, assignment_role, postfix_role, operator_stays, assignment_stays, question_stays, dot_stays, colon_stays, paren_stays, bracket_stays, comma_stays, semi_stays, ends_not_on_line}
+use Rattle.js_parser.specs.Frames.{Field, Link, Choice, Target, Var, exprs_onto, fields_onto, steps_onto, reached, chain_onto, choose_onto, assign_onto, vars_onto, stmts_onto, Where, in_body, in_header, Frame, in_paren, in_items, in_field, in_args, in_element, in_sign, in_chain, in_then, in_else, in_assign, in_expr, in_give, in_value, in_if, in_while, in_first, in_test, in_next, in_when, in_either, in_loop, in_for, in_block, in_function, Frames, breaks, continues, need, have, dotted, at_key, begin, did, at_give, at_jump, at_name, named, at_first, at_test, at_next, expects}
+use Rattle.js_parser.specs.Machine.{joins, updates, bumps, question, colon, closes, shuts, comma, semicolon, role_of, takes, looping, on_need, on_key, on_begin, on_dotted, on_function, at_function, on_name, on_named, on_first, on_test, on_next, Outcome, go}
+use Rattle.js_parser.proofs.Tokens.{two_le_level, above_level, both, operator_role, assignment_role, postfix_role, operator_stays, assignment_stays, question_stays, colon_stays, paren_stays, bracket_stays, comma_stays, semi_stays, ends_not_on_line}
 use Rattle.js_parser.proofs.Collapse.{Ends, ends_kind, more_ends, loose_ends, then_go, same_go, have_step, have_role, collapse_sign, collapse_chain, collapse_else, collapse_assign, collapse_steps, open_stepped}
 use Rattle.js_parser.proofs.Places.{takes_up, sign_takes, target_tight, then_operator, more_chain, then_question, then_update, then_sign, need_sign, need_literal, key_step, begin_declaration, first_declaration, expect_go}
 use Rattle.js_parser.proofs.Starts.{starts, begins, firsts, tests, nexts, gives}
@@ -161,9 +159,9 @@ mutual
       let four = expect_go m.RightParen (expects m.LeftBrace (begin inner)) t4 (t5 ∷ g) q4 refl in
       let five = expect_go m.LeftBrace (begin inner) t5 g q5 refl in
       one ∙ two ∙ three ∙ four ∙ five ∙ stmts_go hs (in_function e back t2.place) (functions e back t2.place) fs [] (λ back'. refl) (go c (have e (binding t2.place ss ∷ back) fs)) (λ back' z.
-        let six = then_go (begin (in_function e back t2.place back' ∷ fs)) t6 (t7 ∷ c) (expects m.RightParen (have e (binding t2.place (stmts_onto back' no_stmts) ∷ back) fs)) (ap (on_begin (in_function e back t2.place back' ∷ fs) t6.place) q6) in
-        let seven = expect_go m.RightParen (have e (binding t2.place (stmts_onto back' no_stmts) ∷ back) fs) t7 c q7 refl in
-        six ∙ seven ∙ ap (λ y. go c (have e (binding t2.place y ∷ back) fs)) z)
+      let six = then_go (begin (in_function e back t2.place back' ∷ fs)) t6 (t7 ∷ c) (expects m.RightParen (have e (binding t2.place (stmts_onto back' no_stmts) ∷ back) fs)) (ap (on_begin (in_function e back t2.place back' ∷ fs) t6.place) q6) in
+      let seven = expect_go m.RightParen (have e (binding t2.place (stmts_onto back' no_stmts) ∷ back) fs) t7 c q7 refl in
+      six ∙ seven ∙ ap (λ y. go c (have e (binding t2.place y ∷ back) fs)) z)
 
   pub steps_go : {q : Reached} {ss : Steps} {b rest : List Token} → ReadsSteps q ss b rest → (e : Expr) (s : Step) (back : List Step) (fs : Frames) → tightness e ≡ 16 → q ≡ reached e (s ∷ back) → Ends rest 15 true → go b (have e (s ∷ back) fs) ≡ go rest (have (steps_onto e s back ss) [] fs)
   steps_go (p_none {rest = rest}) e s back fs tight at x =
@@ -214,8 +212,8 @@ mutual
   stmt_go (s_declare {q = d} {vs = vs} {c = c} {d = f} {rest = rest} (a_token {t = t} {rest = b} q) hv close) fs lp =
       let one = then_go (begin fs) t b (at_name in_body t.place d [] fs) (ap (on_begin fs t.place) q ∙ begin_declaration fs t.place d) in
       one ∙ vars_go hv in_body t.place d fs [] (λ n ready z. close_ends close n ready z) (go rest (did (declare t.place d vs c) fs))
-        (λ n r back z l. named_go close l t.place d back n r fs ∙ ap (λ y. go rest (did (declare t.place d y c) fs)) z)
-        (λ n r e back z l. close_go close (in_value in_body t.place d back n r) e (λ y. declare t.place d (vars_onto back (last_var n r (just e))) y) fs (record { closed = refl; by_semi = refl; by_end = λ x. refl; by_brace = λ x. refl; at_end = refl }) l ∙ ap (λ y. go rest (did (declare t.place d y c) fs)) z)
+      (λ n r back z l. named_go close l t.place d back n r fs ∙ ap (λ y. go rest (did (declare t.place d y c) fs)) z)
+      (λ n r e back z l. close_go close (in_value in_body t.place d back n r) e (λ y. declare t.place d (vars_onto back (last_var n r (just e))) y) fs (record { closed = refl; by_semi = refl; by_end = λ x. refl; by_brace = λ x. refl; at_end = refl }) l ∙ ap (λ y. go rest (did (declare t.place d y c) fs)) z)
   stmt_go (s_when {e = e} {s = s} {rest = rest} (a_token {t = t} q) (seen {t = u} {rest = b} p) r (seen {t = v} {rest = f} w) body lacks) fs lp =
       let one = if_start fs t u b q p in
       let two = reads_go r (in_if t.place ∷ fs) refl (ends_kind v (k.Mark m.RightParen) closes (tightness e) (is_open e) w refl tt) in
@@ -294,8 +292,8 @@ mutual
   first_go {rest = rest} (z_declare {q = d} {vs = vs} (a_token {t = t} {rest = b} q) hv) p fs s =
       let one = then_go (at_first p fs) t b (at_name (in_header p) t.place d [] fs) (ap (on_first p fs t.place) q ∙ first_declaration p fs t.place d) in
       one ∙ vars_go hv (in_header p) t.place d fs [] (λ n ready z. semi_any s n ready) (go rest (at_test p (first_declare t.place d vs) fs))
-        (λ n r back z l. header_named s p t.place d back n r fs ∙ ap (λ y. go rest (at_test p (first_declare t.place d y) fs)) z)
-        (λ n r e back z l. header_value s p t.place d back n r e fs ∙ ap (λ y. go rest (at_test p (first_declare t.place d y) fs)) z)
+      (λ n r back z l. header_named s p t.place d back n r fs ∙ ap (λ y. go rest (at_test p (first_declare t.place d y) fs)) z)
+      (λ n r e back z l. header_value s p t.place d back n r e fs ∙ ap (λ y. go rest (at_test p (first_declare t.place d y) fs)) z)
 
   pub test_go : {e : Maybe} {a b rest : List Token} → ReadsMaybe e a b → (p : Place) (i : First) (fs : Frames) → Sees (k.Mark m.Semicolon) b rest → go a (at_test p i fs) ≡ go rest (at_next p i e fs)
   test_go y_none p i fs (seen {t = t} {rest = rest} q) = then_go (at_test p i fs) t rest (at_next p i nothing fs) (ap (on_test p i fs t.place) q)

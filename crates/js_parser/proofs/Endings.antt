@@ -1,40 +1,27 @@
 -- What is open can be brought to its end, so the machine stops exactly where no tree goes on.
-use Rattle.std.proofs.Common.{◌≡◌, ℕ, ◌≤◌, Bool, true, false, not, ◌&&◌, ◌||◌, List, [], ◌∷◌, Option, Some, None, refl, sym, ap, ◌∙◌, arith, subst, suc, inl, inr, ◌⊎◌, le-leb, eq-eqb}
-use Rattle.std.specs.Prelude.{if◌then◌else◌, nat_le, nat_lt, ◌==◌}
+use Rattle.std.proofs.Common.{◌≡◌, ℕ, ◌≤◌, Bool, true, false, not, ◌||◌, List, [], ◌∷◌, refl, sym, ap, ◌∙◌, arith, subst, inl, inr, eq-eqb}
+use Rattle.std.specs.Prelude.{if◌then◌else◌, nat_le, ◌==◌}
 use Rattle.std.proofs.lemmas.Bool.Decides.{leb_tells}
 use Rattle.std.proofs.lemmas.Bool.{leb-true, eqb-true}
 use Rattle.qml_base.specs.declared.numbers.Place.{Place}
 use Rattle.qml_syntax.specs.declared.token.TokenKind.{TokenKind}
 use Rattle.qml_syntax.specs.declared.token.TokenKind.TheVariants as k
-use Rattle.qml_syntax.specs.declared.mark.Mark.{Mark}
 use Rattle.qml_syntax.specs.declared.mark.Mark.TheVariants as m
 use Rattle.qml_syntax.specs.declared.word.Word.TheVariants as w
 use Rattle.qml_syntax.specs.declared.token.Token.{Token}
-use Rattle.qml_syntax.specs.declared.operators.Operator.{Operator}
-use Rattle.qml_syntax.specs.declared.operators.Prefix.{Prefix}
-use Rattle.qml_syntax.specs.declared.operators.Prefix.TheVariants as g
-use Rattle.qml_syntax.specs.declared.operators.Postfix.{Postfix}
-use Rattle.qml_syntax.specs.declared.operators.Postfix.TheVariants as b
-use Rattle.qml_syntax.specs.declared.operators.Assignment.{Assignment}
-use Rattle.qml_syntax.specs.declared.operators.Assignment.TheVariants as u
-use Rattle.qml_syntax.specs.declared.literal.Literal.TheVariants as x
 use Rattle.qml_syntax.specs.declared.literal.Declaration.{Declaration}
-use Rattle.qml_syntax.specs.declared.literal.Declaration.TheVariants as v
-use Rattle.qml_syntax.specs.Spelling.{operator_mark, prefix_kind, postfix_mark, assignment_mark, key_kind, declaration_word}
-use Rattle.qml_syntax.specs.Tree.{Units, Close, semi, auto, Expr, name, number, text, literal, paren, list, fields, steps, bumped, signed, chain, choose, assign, no_exprs, no_signs, no_links, no_choices, no_targets, Steps, a_step, Stmts, no_fields, a_field, Step, member, element, call, binding, no_steps, Stmt, empty, expr, block, declare, when, either, while, for, give, stop, again, no_stmts, Vars, last_var, a_var, Maybe, nothing, just, First, no_first, first_expr, first_declare}
-use Rattle.qml_syntax.specs.Levels.{level, operand, tightness, is_target, is_bump, is_open, ends_in_place, Reached, at_qt, at_binding, elsewhere}
-use Rattle.qml_syntax.specs.Ends.{One, a_token, Sees, seen, OnLine, Lacks, Last, bare, last_of, last_vars, last_maybe, goes_on, EndsBefore, AloneBefore, ReadsClose, c_semi, c_auto, ClosesAlone, b_semi, b_auto}
-use Rattle.qml_syntax.specs.Reads.{Reads, r_name, r_number, r_text, r_literal, r_paren, r_list, r_fields, r_bumped, e_none, e_last, f_none, f_last, no_comma, a_comma, ReadsStep, p_member, p_element, p_call, p_binding, ReadsStmt, s_empty, s_expr, s_block, s_declare, s_when, s_either, s_while, s_for, s_give, s_give_value, s_stop, s_again, ss_none, v_last, i_none, i_value, y_none, y_some, z_none, z_expr, z_declare}
-use Rattle.js_parser.specs.Frames.{Field, Var, exprs_onto, fields_onto, stepped, steps_onto, reached, signed_onto, chain_onto, choose_onto, assign_onto, vars_onto, stmts_onto, Where, in_body, in_header, Frame, in_alone, in_one, in_list, in_paren, in_items, in_field, in_args, in_element, in_sign, in_chain, in_then, in_else, in_assign, in_expr, in_give, in_value, in_if, in_while, in_first, in_test, in_next, in_when, in_either, in_loop, in_for, in_block, in_function, Frames, Jump, breaks, continues, jump, State, need, have, dotted, at_key, begin, did, at_give, at_jump, at_name, named, at_first, at_test, at_next, expects}
-use Rattle.js_parser.specs.Machine.{Role, joins, updates, bumps, question, dot, calls, indexes, colon, closes, shuts, comma, semicolon, brace, other, role_of, is_brace, is_semi, is_else, ends_line, ends_alone, Entry, takes, doing, looping, an_expression, a_statement, a_body, start_of, Whole, whole_expr, whole_stmt, whole_body, list_whole, placed_whole, held_whole, finish, Outcome, go_on, go, Held, held, closed_at, Placed, placed, over, on_sign, without_args, ends_items, at_function, on_function, on_need, some_fields_back, on_key, ends_block, on_jump, on_begin, on_placed, on_else, on_did, begins_chain, with_operator, with_update, with_question, with_colon, with_paren, with_bracket, with_comma, with_semi, with_end, with_brace, on_role, on_have, on_dotted, on_alone, on_name, named_semi, named_end, on_named, on_first, on_test, on_next, is_mark, step}
-use Rattle.js_parser.proofs.Tokens.{level_le_twelve, else_not, both, both_true, not_true, true_or_false, either_true, or_right, operand_le_thirteen, KindFits, role_fits, ends_tell, brace_is, semi_is, else_is, is_not_else}
-use Rattle.js_parser.proofs.Collapse.{stepped_tight, have_role}
-use Rattle.js_parser.proofs.Places.{takes_up, takes_steps, takes_sign}
-use Rattle.js_parser.specs.Answer.{ReadsWhole, IsReadPrefix, Parts, IsTreeOf, IsAnswer}
-use Rattle.js_parser.proofs.Opened.{signs_closed, chain_closed, choice_closed, assign_closed, OpenExprs, oe_none, oe_more, exprs_closed, some_exprs_onto, OpenFields, of_none, of_more, fields_closed, some_fields_onto, OpenVars, ov_none, ov_more, vars_closed, OpenStmts, os_none, os_more, stmts_closed, ReadsBack, rb_none, rb_more, back_reads, OpenSigns, og_first, og_more, OpenChain, oc_first, oc_more, OpenThen, ot_first, ot_more, OpenAssign, oa_first, oa_more}
+use Rattle.qml_syntax.specs.Tree.{Units, semi, Expr, name, paren, list, fields, no_exprs, no_signs, no_links, no_choices, no_targets, Steps, a_step, no_fields, Step, member, element, call, binding, no_steps, Stmt, empty, expr, block, declare, when, either, while, for, give, no_stmts, last_var, Maybe, nothing, just, First, no_first, first_expr, first_declare}
+use Rattle.qml_syntax.specs.Levels.{level, operand, tightness, is_target, is_bump, ends_in_place, Reached}
+use Rattle.qml_syntax.specs.Ends.{a_token, seen, Lacks, c_semi}
+use Rattle.qml_syntax.specs.Reads.{Reads, r_name, r_paren, r_list, r_fields, e_last, f_last, no_comma, ReadsStep, p_member, p_element, p_call, p_binding, ReadsStmt, s_empty, s_expr, s_block, s_declare, s_when, s_either, s_while, s_for, s_give_value, ss_none, v_last, i_value, y_none, y_some, z_expr, z_declare}
+use Rattle.js_parser.specs.Frames.{Var, exprs_onto, fields_onto, stepped, steps_onto, reached, signed_onto, chain_onto, choose_onto, assign_onto, vars_onto, stmts_onto, Where, in_body, in_header, in_alone, in_one, in_list, in_paren, in_items, in_field, in_args, in_element, in_sign, in_chain, in_then, in_else, in_assign, in_expr, in_give, in_value, in_if, in_while, in_first, in_test, in_next, in_when, in_either, in_loop, in_for, in_block, in_function, Frames, jump, State, need, have, dotted, at_key, begin, did, at_give, at_jump, at_name, named, at_first, at_test, at_next, expects}
+use Rattle.js_parser.specs.Machine.{Entry, takes, doing, looping, Whole, whole_expr, whole_stmt, whole_body, some_fields_back}
+use Rattle.js_parser.proofs.Tokens.{level_le_twelve, true_or_false, or_right}
+use Rattle.js_parser.specs.Answer.{ReadsWhole}
+use Rattle.js_parser.proofs.Opened.{signs_closed, chain_closed, choice_closed, assign_closed, exprs_closed, fields_closed, vars_closed, os_more, stmts_closed, ReadsBack, rb_none, rb_more, back_reads}
 use Rattle.js_parser.proofs.Steps.{step_reads, takes_all}
-use Rattle.js_parser.proofs.Sound.{over_reads, chosen, moved, see_at, one_sees, steps_takes, stepped_reads, on_need_reads, on_key_reads, on_begin_reads, on_did_reads}
-use Rattle.js_parser.proofs.Left.{sign_tight, signed_tight, chain_tight, choose_tight, assign_tight, not_one_tells, jump_kind, Left, l_alone, l_one, l_list, l_paren, l_items, l_field, l_args, l_element, l_sign, l_chain, l_then, l_else, l_assign, l_expr, l_give, l_value, l_if, l_while, l_first, l_test, l_next, l_when, l_either, l_loop, l_for, l_block, l_function, LeftAt, w_body, w_header, HeldReads, PlacedReads, StateReads, closed_reads}
+use Rattle.js_parser.proofs.Sound.{steps_takes}
+use Rattle.js_parser.proofs.Left.{sign_tight, signed_tight, chain_tight, choose_tight, assign_tight, not_one_tells, Left, l_alone, l_one, l_list, l_paren, l_items, l_field, l_args, l_element, l_sign, l_chain, l_then, l_else, l_assign, l_expr, l_give, l_value, l_if, l_while, l_first, l_test, l_next, l_when, l_either, l_loop, l_for, l_block, l_function, w_body, w_header, StateReads}
 
 -- ---- what brings what is open to its end
 
@@ -119,6 +106,7 @@ dot_end fs e ss a t rb tight W k1 =
 
 mutual
   unfolding shut token
+
   stmt_ended : (y : Entry) (fs : Frames) (d : Stmt) (s a : List Token) → Left y fs s a → doing fs ≡ true → ReadsStmt (looping fs) d a (shut_did fs) → Ended y s
   stmt_ended y (in_when p c ∷ fs) d s a (l_when {a = b} l g one see r close) h x = stmt_ended y fs (when p c d) s b l g (s_when one see r close x (no_else_shut fs))
   stmt_ended y (in_either p c i ∷ fs) d s a (l_either {a = b} l g one see r close body els) h x = stmt_ended y fs (either p c i d) s b l g (s_either one see r close body els x)
@@ -230,11 +218,12 @@ ended_by y (need fs) s r = have_ended y (name [] (record { line = 1; column = 1 
 ended_by y (have e ss fs) s r =
     let P : Bool → Type 0 = λ v. StateReads y (have e ss fs) s (if v then dotted_end fs else shut fs) in
     elim (true_or_false (tightness e == 16)) [
-      inl c ↦ have_ended y e ss fs s (eqb-true (tightness e) 16 c) (subst P c r)
-    | inr c ↦
-        let z = subst P c r in
-        let n : tightness e ≡ 16 → ⊥ = (λ q. let f : (tightness e == 16) ≡ true = eq-eqb (tightness e) 16 q in cc) in
-        expr_ended y fs (stepped e ss) s z.0 z.1 (back_reads z.2) z.3 (low_suits fs e ss z.3 z.4 n) ]
+      | inl c ↦ have_ended y e ss fs s (eqb-true (tightness e) 16 c) (subst P c r)
+      | inr c ↦
+          let z = subst P c r in
+          let n : tightness e ≡ 16 → ⊥ = (λ q. let f : (tightness e == 16) ≡ true = eq-eqb (tightness e) 16 q in cc) in
+          expr_ended y fs (stepped e ss) s z.0 z.1 (back_reads z.2) z.3 (low_suits fs e ss z.3 z.4 n)
+    ]
 ended_by y (dotted e ss fs) s (a, c, l, t, rb, tight, see) = have_ended y e (member [] (record { line = 1; column = 1 }) ∷ ss) fs s tight (step_reads y (dotted e ss fs) s (dotted_end fs) (token (k.Name [])) (have e (member [] (record { line = 1; column = 1 }) ∷ ss) fs) (a, c, l, t, rb, tight, see) refl)
 ended_by y (at_key p back fs) s r = have_ended y (fields p (fields_onto back no_fields) (some_fields_back back)) [] fs s refl (step_reads y (at_key p back fs) s (dotted_end fs) (token (k.Mark m.RightBrace)) (have (fields p (fields_onto back no_fields) (some_fields_back back)) [] fs) r refl)
 ended_by y (begin fs) s r = did_ended y (empty (record { line = 1; column = 1 })) fs s (step_reads y (begin fs) s (shut_did fs) (token (k.Mark m.Semicolon)) (did (empty (record { line = 1; column = 1 })) fs) r refl)

@@ -1,23 +1,18 @@
 -- The machine answers exactly.
-use Rattle.std.proofs.Common.{◌≡◌, ℕ, Bool, true, false, List, [], ◌∷◌, ◌++◌, Option, Some, None, refl, sym, ap, ◌∙◌, subst, append_assoc}
+use Rattle.std.proofs.Common.{◌≡◌, Bool, true, false, List, [], ◌∷◌, ◌++◌, Option, Some, None, refl, sym, ap, ◌∙◌, subst, append_assoc}
 use Rattle.std.proofs.lemmas.List.{append-nil}
-use Rattle.std.specs.Prelude.{MatchOption}
-use Rattle.qml_base.specs.declared.numbers.Place.{Place}
-use Rattle.qml_syntax.specs.declared.word.Word.TheVariants as w
-use Rattle.qml_syntax.specs.declared.token.TokenKind.TheVariants as k
 use Rattle.qml_syntax.specs.declared.token.Token.{Token}
-use Rattle.qml_syntax.specs.declared.literal.Declaration.{Declaration}
-use Rattle.qml_syntax.specs.Tree.{Units, Close, auto, Expr, Step, Stmt, Stmts, no_stmts, expr, give, declare, last_var, nothing, just}
-use Rattle.qml_syntax.specs.Levels.{tightness, is_open}
-use Rattle.qml_syntax.specs.Ends.{last_of, last_vars, c_auto, b_auto}
+use Rattle.qml_syntax.specs.Tree.{auto, Expr, Stmt, Stmts, no_stmts, expr, give, declare, last_var, nothing, just}
+use Rattle.qml_syntax.specs.Levels.{is_open}
+use Rattle.qml_syntax.specs.Ends.{c_auto, b_auto}
 use Rattle.qml_syntax.specs.Reads.{Reads, ReadsStmt, ReadsStmts, s_expr, s_give, s_give_value, s_declare, ss_none, v_last, i_none, i_value}
-use Rattle.js_parser.specs.Frames.{Var, stepped, vars_onto, stmts_onto, Where, in_body, in_header, Frame, in_alone, in_one, in_list, in_expr, in_give, in_value, Frames, Jump, jump, State, need, have, dotted, at_key, begin, did, at_give, at_jump, at_name, named, at_first, at_test, at_next, expects}
+use Rattle.js_parser.specs.Frames.{stepped, vars_onto, stmts_onto, in_body, in_alone, in_one, in_list, in_expr, in_give, in_value, Frames, jump, State, have, begin, did, at_give, at_jump, named}
 use Rattle.js_parser.specs.Machine.{Entry, an_expression, a_statement, a_body, start_of, Whole, whole_expr, whole_stmt, whole_body, list_whole, placed_whole, held_whole, finish, Outcome, go_on, go, Held, held, closed_at, Placed, placed, over, doing, looping, step}
-use Rattle.js_parser.specs.Answer.{ReadsWhole, IsReadPrefix, Parts, IsTreeOf, IsAnswer}
+use Rattle.js_parser.specs.Answer.{ReadsWhole, IsReadPrefix, IsTreeOf, IsAnswer}
 use Rattle.js_parser.proofs.Opened.{os_none, os_more, stmts_closed, back_reads, vars_closed}
 use Rattle.js_parser.proofs.Left.{Left, l_alone, l_one, l_list, l_expr, l_give, l_value, w_body, HeldReads, PlacedReads, StateReads, closed_reads}
 use Rattle.js_parser.proofs.Sound.{over_reads}
-use Rattle.js_parser.proofs.Steps.{step_reads, jump_stmt, last_onto}
+use Rattle.js_parser.proofs.Steps.{step_reads, jump_stmt}
 use Rattle.js_parser.proofs.Endings.{ending, Ended, ended_by}
 use Rattle.js_parser.proofs.Complete.{reads_go, stmt_go, stmts_go}
 use Rattle.js_parser.proofs.Closes.{lists}
@@ -97,14 +92,14 @@ answered y front x rest ran stuck = record {
     split = refl;
     goes_on = prefix_of y front (ending x) (ended_by y x (front ++ ending x) (ran.reads (ending x)));
     ends = λ t more q (m, e, r).
-      let one : go ((front ++ t ∷ []) ++ m) (start_of y) ≡ record { tree = Some e; rest = [] } = whole_go y e ((front ++ t ∷ []) ++ m) r in
-      let two : go (front ++ t ∷ m) (start_of y) ≡ record { tree = finish x; rest = t ∷ m } = ran.goes (t ∷ m) ∙ rw (stuck t more q) refl in
-      let three : go (front ++ t ∷ m) (start_of y) ≡ record { tree = Some e; rest = [] } = rw append_assoc at one in
-      let four : t ∷ m ≡ [] = ap (λ (o : Outcome). o.rest) (sym two ∙ three) in
-      absurd (cc);
+        let one : go ((front ++ t ∷ []) ++ m) (start_of y) ≡ record { tree = Some e; rest = [] } = whole_go y e ((front ++ t ∷ []) ++ m) r in
+        let two : go (front ++ t ∷ m) (start_of y) ≡ record { tree = finish x; rest = t ∷ m } = ran.goes (t ∷ m) ∙ rw (stuck t more q) refl in
+        let three : go (front ++ t ∷ m) (start_of y) ≡ record { tree = Some e; rest = [] } = rw append_assoc at one in
+        let four : t ∷ m ≡ [] = ap (λ (o : Outcome). o.rest) (sym two ∙ three) in
+        absurd (cc);
   };
   tree = tree_of y front (finish x) (λ e h. finish_reads y x front e (rw append-nil at (ran.reads [])) h)
-    (λ e r. ap (λ (o : Outcome). o.tree) (sym (rw append-nil at (ran.goes [])) ∙ whole_go y e front r));
+      (λ e r. ap (λ (o : Outcome). o.tree) (sym (rw append-nil at (ran.goes [])) ∙ whole_go y e front r));
 }
 
 advanced : (y : Entry) (front : List Token) (x : State) (t : Token) (rest : List Token) (o : Option State) → step x t ≡ o → Ran y front x → ((next : State) → Ran y (front ++ t ∷ []) next → IsAnswer y ((front ++ t ∷ []) ++ rest) (go rest next).tree (go rest next).rest) → IsAnswer y (front ++ t ∷ rest) (go_on o (finish x) (t ∷ rest) (λ next. go rest next)).tree (go_on o (finish x) (t ∷ rest) (λ next. go rest next)).rest

@@ -1,7 +1,7 @@
 -- What is open has read what came.
-use Rattle.std.proofs.Common.{◌≡◌, ℕ, ◌≤◌, Bool, true, false, not, ◌&&◌, ◌||◌, List, [], ◌∷◌, refl, sym, ap, ◌∙◌, arith, subst, suc, inl, inr, ◌⊎◌}
+use Rattle.std.proofs.Common.{◌≡◌, ℕ, ◌≤◌, Bool, true, false, not, ◌||◌, List, [], ◌∷◌, refl, sym, ap, ◌∙◌, arith, subst, inl, inr}
 use Rattle.std.specs.Prelude.{if◌then◌else◌, nat_le, nat_lt, ◌==◌}
-use Rattle.std.proofs.lemmas.Bool.{leb-true, eqb-true, ne_eqb}
+use Rattle.std.proofs.lemmas.Bool.{leb-true}
 use Rattle.qml_base.specs.declared.numbers.Place.{Place}
 use Rattle.qml_syntax.specs.declared.token.TokenKind.{TokenKind}
 use Rattle.qml_syntax.specs.declared.token.TokenKind.TheVariants as k
@@ -13,11 +13,11 @@ use Rattle.qml_syntax.specs.declared.operators.Prefix.{Prefix}
 use Rattle.qml_syntax.specs.declared.operators.Assignment.{Assignment}
 use Rattle.qml_syntax.specs.declared.literal.Declaration.{Declaration}
 use Rattle.qml_syntax.specs.Spelling.{key_kind, declaration_word}
-use Rattle.qml_syntax.specs.Tree.{Units, Close, Expr, Exprs, Step, Stmt, Maybe, First, no_signs, Signs, a_sign, no_links, Links, a_link, no_choices, Choices, a_choice, no_targets, Targets, a_target}
-use Rattle.qml_syntax.specs.Levels.{level, operand, tightness, is_target, is_bump, is_open, Reached, at_binding}
+use Rattle.qml_syntax.specs.Tree.{Units, Expr, Step, Stmt, Maybe, First, no_signs, Signs, a_sign, no_links, Links, a_link, no_choices, Choices, a_choice, no_targets, Targets, a_target}
+use Rattle.qml_syntax.specs.Levels.{level, operand, tightness, is_target, is_bump, is_open, at_binding}
 use Rattle.qml_syntax.specs.Ends.{One, Sees, OnLine, Lacks}
 use Rattle.qml_syntax.specs.Reads.{Reads, ReadsStmt, ReadsMaybe, ReadsFirst}
-use Rattle.js_parser.specs.Frames.{Field, Sign, Link, Choice, Target, Var, stepped, reached, signed_onto, chain_onto, choose_onto, assign_onto, Where, in_body, in_header, Frame, in_alone, in_one, in_list, in_paren, in_items, in_field, in_args, in_element, in_sign, in_chain, in_then, in_else, in_assign, in_expr, in_give, in_value, in_if, in_while, in_first, in_test, in_next, in_when, in_either, in_loop, in_for, in_block, in_function, Frames, Jump, breaks, continues, State, need, have, dotted, at_key, begin, did, at_give, at_jump, at_name, named, at_first, at_test, at_next, expects}
+use Rattle.js_parser.specs.Frames.{Field, Sign, Link, Choice, Target, Var, stepped, reached, signed_onto, chain_onto, choose_onto, assign_onto, Where, in_body, in_header, in_alone, in_one, in_list, in_paren, in_items, in_field, in_args, in_element, in_sign, in_chain, in_then, in_else, in_assign, in_expr, in_give, in_value, in_if, in_while, in_first, in_test, in_next, in_when, in_either, in_loop, in_for, in_block, in_function, Frames, Jump, breaks, continues, State, need, have, dotted, at_key, begin, did, at_give, at_jump, at_name, named, at_first, at_test, at_next, expects}
 use Rattle.js_parser.specs.Machine.{Entry, an_expression, a_statement, a_body, takes, doing, looping, Held, held, closed_at, Placed, placed}
 use Rattle.js_parser.proofs.Tokens.{true_or_false, not_true}
 use Rattle.js_parser.proofs.Collapse.{open_signed, open_chain, open_choose, open_assign}
@@ -120,24 +120,28 @@ closed_reads y (in_sign back h p ∷ fs) n e ready s b rest (l_sign {a = a} l t 
     let whole = signed_onto back h p no_signs e in
     let P : Bool → Held = λ v. if v then closed_at fs n whole else held e (in_sign back h p ∷ fs) in
     elim (true_or_false (not (is_bump h) || is_target e)) [
-      inl c ↦ held_moved y ready s rest (sym (ap P c)) (closed_reads y fs n whole ready s a rest l (signs_closed o r (sign_tight h (tightness e) tk) c) (ap (takes fs) (signed_tight back h p no_signs e) ∙ t) (open_signed back h p no_signs e ∙ op))
-    | inr c ↦ held_moved y ready s rest (sym (ap P c)) (b, l_sign l t o, r, tk, op) ]
+      | inl c ↦ held_moved y ready s rest (sym (ap P c)) (closed_reads y fs n whole ready s a rest l (signs_closed o r (sign_tight h (tightness e) tk) c) (ap (takes fs) (signed_tight back h p no_signs e) ∙ t) (open_signed back h p no_signs e ∙ op))
+      | inr c ↦ held_moved y ready s rest (sym (ap P c)) (b, l_sign l t o, r, tk, op)
+    ]
 closed_reads y (in_chain d back i p ∷ fs) n e ready s b rest (l_chain {a = a} l t o) r tk op =
     let whole = chain_onto d back i p e no_links in
     let P : Bool → Held = λ v. if v then closed_at fs n whole else held e (in_chain d back i p ∷ fs) in
     elim (true_or_false (nat_lt n (level i))) [
-      inl c ↦ held_moved y ready s rest (sym (ap P c)) (closed_reads y fs n whole ready s a rest l (chain_closed o r (leb-true (operand i) (tightness e) tk)) (ap (takes fs) (chain_tight o e no_links) ∙ t) (open_chain d back i p e no_links ∙ op))
-    | inr c ↦ held_moved y ready s rest (sym (ap P c)) (b, l_chain l t o, r, tk, op) ]
+      | inl c ↦ held_moved y ready s rest (sym (ap P c)) (closed_reads y fs n whole ready s a rest l (chain_closed o r (leb-true (operand i) (tightness e) tk)) (ap (takes fs) (chain_tight o e no_links) ∙ t) (open_chain d back i p e no_links ∙ op))
+      | inr c ↦ held_moved y ready s rest (sym (ap P c)) (b, l_chain l t o, r, tk, op)
+    ]
 closed_reads y (in_else back c d ∷ fs) n e ready s b rest (l_else {a = a} l t o x z) r tk op =
     let whole = choose_onto back c d no_choices e in
     let P : Bool → Held = λ v. if v then closed_at fs n whole else held e (in_else back c d ∷ fs) in
     elim (true_or_false (n == 0)) [
-      inl h ↦ held_moved y ready s rest (sym (ap P h)) (closed_reads y fs n whole ready s a rest l (choice_closed o x z r (not_one_tells (tightness e) tk)) (ap (takes fs) (choose_tight back c d no_choices e) ∙ t) (open_choose back c d no_choices e ∙ op))
-    | inr h ↦ held_moved y ready s rest (sym (ap P h)) (b, l_else l t o x z, r, tk, op) ]
+      | inl h ↦ held_moved y ready s rest (sym (ap P h)) (closed_reads y fs n whole ready s a rest l (choice_closed o x z r (not_one_tells (tightness e) tk)) (ap (takes fs) (choose_tight back c d no_choices e) ∙ t) (open_choose back c d no_choices e ∙ op))
+      | inr h ↦ held_moved y ready s rest (sym (ap P h)) (b, l_else l t o x z, r, tk, op)
+    ]
 closed_reads y (in_assign back c i p ∷ fs) n e ready s b rest (l_assign {a = a} l t o) r tk op =
     let whole = assign_onto back c i p no_targets e in
     let P : Bool → Held = λ v. if v then closed_at fs n whole else held e (in_assign back c i p ∷ fs) in
     elim (true_or_false (n == 0)) [
-      inl h ↦ held_moved y ready s rest (sym (ap P h)) (closed_reads y fs n whole ready s a rest l (assign_closed o r (leb-true 1 (tightness e) tk)) (ap (takes fs) (assign_tight back c i p no_targets e) ∙ t) (open_assign back c i p no_targets e ∙ op))
-    | inr h ↦ held_moved y ready s rest (sym (ap P h)) (b, l_assign l t o, r, tk, op) ]
+      | inl h ↦ held_moved y ready s rest (sym (ap P h)) (closed_reads y fs n whole ready s a rest l (assign_closed o r (leb-true 1 (tightness e) tk)) (ap (takes fs) (assign_tight back c i p no_targets e) ∙ t) (open_assign back c i p no_targets e ∙ op))
+      | inr h ↦ held_moved y ready s rest (sym (ap P h)) (b, l_assign l t o, r, tk, op)
+    ]
 closed_reads y _ n e ready s a rest l r tk op = (a, l, r, tk, op)

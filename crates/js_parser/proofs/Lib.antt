@@ -11,3 +11,4 @@ pub mod Sound
 pub mod Steps
 pub mod Endings
 pub mod Exact
+pub mod Fronts

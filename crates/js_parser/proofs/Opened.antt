@@ -1,5 +1,5 @@
 -- What the open parts of trees have read, and that they close as what reads all of it.
-use Rattle.std.proofs.Common.{◌≡◌, ℕ, ◌≤◌, Bool, true, false, not, ◌&&◌, ◌||◌, List, [], ◌∷◌, refl, sym, ap, ◌∙◌, arith, subst, suc}
+use Rattle.std.proofs.Common.{◌≡◌, ℕ, ◌≤◌, Bool, true, false, not, ◌&&◌, ◌||◌, List, [], ◌∷◌, refl, sym, ap, ◌∙◌, subst}
 use Rattle.qml_base.specs.declared.numbers.Place.{Place}
 use Rattle.qml_syntax.specs.declared.token.TokenKind.TheVariants as k
 use Rattle.qml_syntax.specs.declared.mark.Mark.TheVariants as m
@@ -8,10 +8,10 @@ use Rattle.qml_syntax.specs.declared.operators.Operator.{Operator}
 use Rattle.qml_syntax.specs.declared.operators.Prefix.{Prefix}
 use Rattle.qml_syntax.specs.declared.operators.Assignment.{Assignment}
 use Rattle.qml_syntax.specs.Spelling.{operator_mark, prefix_kind, assignment_mark, key_kind}
-use Rattle.qml_syntax.specs.Tree.{Units, Expr, Exprs, no_exprs, an_expr, Fields, no_fields, a_field, Step, Steps, no_steps, a_step, Signs, no_signs, a_sign, Links, no_links, a_link, Choices, no_choices, a_choice, Targets, no_targets, a_target, Stmt, Stmts, no_stmts, a_stmt, Vars, last_var, a_var, Maybe}
-use Rattle.qml_syntax.specs.Levels.{level, operand, tightness, is_target, is_bump, signs_fit, Reached, start, beyond}
+use Rattle.qml_syntax.specs.Tree.{Units, Expr, Exprs, an_expr, Fields, a_field, Step, Steps, Signs, no_signs, Links, no_links, Choices, no_choices, Targets, no_targets, Stmt, Stmts, Vars, Maybe}
+use Rattle.qml_syntax.specs.Levels.{level, operand, tightness, is_target, is_bump, signs_fit}
 use Rattle.qml_syntax.specs.Ends.{One, Sees}
-use Rattle.qml_syntax.specs.Reads.{Reads, r_steps, r_signed, r_chain, r_choose, r_assign, ReadsExprs, e_last, e_more, some_exprs, ReadsFields, f_last, f_more, some_fields, ReadsStep, ReadsSteps, p_none, p_more, ReadsSigns, g_none, g_more, ReadsLinks, l_none, l_more, ReadsChoices, h_none, h_more, ReadsTargets, t_none, t_more, ReadsStmt, ReadsStmts, ss_none, ss_more, ReadsVars, v_last, v_more, ReadsInit}
+use Rattle.qml_syntax.specs.Reads.{Reads, r_steps, r_signed, r_chain, r_choose, r_assign, ReadsExprs, e_more, some_exprs, ReadsFields, f_more, some_fields, ReadsStep, ReadsSteps, p_none, p_more, ReadsSigns, g_none, g_more, ReadsLinks, l_none, l_more, ReadsChoices, h_none, h_more, ReadsTargets, t_none, t_more, ReadsStmt, ReadsStmts, ss_more, ReadsVars, v_more, ReadsInit}
 use Rattle.js_parser.specs.Frames.{Field, Sign, Link, Choice, Target, Var, exprs_onto, fields_onto, steps_onto, stepped, reached, signed_onto, chain_onto, choose_onto, assign_onto, vars_onto, stmts_onto}
 
 -- ---- each with a comma behind it

@@ -1,9 +1,8 @@
 -- Which trees the innermost frame takes, and how an expression goes on there.
-use Rattle.std.proofs.Common.{◌≡◌, ℕ, ◌≤◌, ◌<◌, Bool, true, false, not, ◌&&◌, ◌||◌, List, [], ◌∷◌, Option, Some, None, refl, sym, ap, ◌∙◌, arith, suc, subst, inl, inr, ◌⊎◌, le-leb, eq-eqb}
+use Rattle.std.proofs.Common.{◌≡◌, ℕ, ◌≤◌, Bool, true, false, not, ◌&&◌, ◌||◌, List, [], ◌∷◌, Some, None, refl, ap, ◌∙◌, arith, le-leb, eq-eqb}
 use Rattle.std.specs.Prelude.{nat_le, nat_lt, ◌==◌, if◌then◌else◌}
-use Rattle.std.proofs.lemmas.Bool.{lt-leb, leb-true, ne_eqb, lt-ltb, le-ltb}
+use Rattle.std.proofs.lemmas.Bool.{leb-true, ne_eqb, le-ltb}
 use Rattle.qml_base.specs.declared.numbers.Place.{Place}
-use Rattle.qml_syntax.specs.declared.token.TokenKind.{TokenKind}
 use Rattle.qml_syntax.specs.declared.token.TokenKind.TheVariants as k
 use Rattle.qml_syntax.specs.declared.mark.Mark.{Mark}
 use Rattle.qml_syntax.specs.declared.token.Token.{Token}
@@ -16,11 +15,11 @@ use Rattle.qml_syntax.specs.declared.literal.Literal.TheVariants as x
 use Rattle.qml_syntax.specs.declared.literal.Declaration.{Declaration}
 use Rattle.qml_syntax.specs.declared.literal.Declaration.TheVariants as v
 use Rattle.qml_syntax.specs.Spelling.{prefix_kind, literal_word, declaration_word, key_kind}
-use Rattle.qml_syntax.specs.Tree.{Units, Expr, name, number, text, literal, paren, list, fields, steps, bumped, signed, chain, choose, assign}
+use Rattle.qml_syntax.specs.Tree.{Units, Expr, name, literal, steps}
 use Rattle.qml_syntax.specs.Levels.{level, operand, tightness, is_target, is_bump}
-use Rattle.js_parser.specs.Frames.{Sign, Link, Choice, Target, Field, Where, in_body, in_header, Frame, in_sign, in_chain, in_then, in_else, in_assign, in_field, Frames, State, need, have, at_name, expects}
+use Rattle.js_parser.specs.Frames.{Sign, Link, Field, in_body, in_header, in_sign, in_chain, in_then, in_else, in_assign, in_field, Frames, State, need, have, at_name, expects}
 use Rattle.qml_syntax.specs.declared.mark.Mark.TheVariants as m
-use Rattle.js_parser.specs.Machine.{takes, Held, held, closed_at, begins_chain, with_operator, with_update, with_question, on_sign, on_need, on_key, on_begin, on_first, is_mark, step, go}
+use Rattle.js_parser.specs.Machine.{takes, held, closed_at, begins_chain, with_operator, with_update, with_question, on_sign, on_need, on_key, on_begin, on_first, is_mark, go}
 use Rattle.js_parser.proofs.Tokens.{two_le_level, level_le_twelve, above_level, operand_le_thirteen, both}
 use Rattle.js_parser.proofs.Collapse.{then_go}
 

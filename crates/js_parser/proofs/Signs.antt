@@ -1,21 +1,18 @@
 -- Parts of expressions that hold no expression, or end in a bracket.
-use Rattle.std.proofs.Common.{◌≡◌, ℕ, ◌≤◌, Bool, true, false, not, ◌&&◌, ◌||◌, List, [], ◌∷◌, Option, Some, None, refl, sym, ap, ◌∙◌, arith, subst, suc, inl, inr, ◌⊎◌, eq-eqb}
+use Rattle.std.proofs.Common.{◌≡◌, ℕ, ◌≤◌, Bool, true, false, not, ◌||◌, List, [], ◌∷◌, Some, None, refl, ap, ◌∙◌, arith, suc, eq-eqb}
 use Rattle.std.specs.Prelude.{if◌then◌else◌, ◌==◌}
 use Rattle.qml_base.specs.declared.numbers.Place.{Place}
-use Rattle.qml_syntax.specs.declared.token.TokenKind.{TokenKind}
 use Rattle.qml_syntax.specs.declared.token.TokenKind.TheVariants as k
 use Rattle.qml_syntax.specs.declared.mark.Mark.TheVariants as m
-use Rattle.qml_syntax.specs.declared.word.Word.TheVariants as w
 use Rattle.qml_syntax.specs.declared.token.Token.{Token}
-use Rattle.qml_syntax.specs.declared.operators.Operator.{Operator}
 use Rattle.qml_syntax.specs.declared.operators.Prefix.{Prefix}
-use Rattle.qml_syntax.specs.Spelling.{operator_mark, prefix_kind}
-use Rattle.qml_syntax.specs.Tree.{Units, Expr, list, fields, Exprs, no_exprs, an_expr, Fields, no_fields, a_field, Step, member, element, call, binding, Signs, no_signs, a_sign, Links, no_links, a_link}
-use Rattle.qml_syntax.specs.Levels.{level, operand, is_bump, signs_fit, is_open, last_open, Reached, at_binding, tightness}
-use Rattle.qml_syntax.specs.Ends.{One, a_token, Sees, seen, last_of, goes_on}
-use Rattle.qml_syntax.specs.Reads.{some_exprs, some_fields, ReadsSigns, g_none, g_more, ReadsLinks, l_none, l_more, ReadsStep, p_member, p_element, p_call, p_binding, Trails, no_comma, a_comma}
+use Rattle.qml_syntax.specs.Spelling.{operator_mark}
+use Rattle.qml_syntax.specs.Tree.{Units, Expr, list, fields, no_exprs, an_expr, no_fields, a_field, Step, Signs, no_signs, Links}
+use Rattle.qml_syntax.specs.Levels.{is_bump, signs_fit, is_open, last_open, Reached, tightness}
+use Rattle.qml_syntax.specs.Ends.{a_token, Sees, seen, last_of, goes_on}
+use Rattle.qml_syntax.specs.Reads.{ReadsSigns, g_none, g_more, ReadsLinks, l_none, l_more, ReadsStep, p_member, p_element, p_call, p_binding, Trails, no_comma, a_comma}
 use Rattle.js_parser.specs.Frames.{Field, exprs_onto, fields_onto, signed_onto, stepped, Frame, in_items, in_field, in_args, in_element, in_sign, Frames, State, need, have, at_key}
-use Rattle.js_parser.specs.Machine.{dot, calls, indexes, shuts, comma, brace, joins, closes, role_of, takes, closed_at, held, with_comma, on_need, on_key, on_sign, on_role, step, Outcome, go}
+use Rattle.js_parser.specs.Machine.{dot, calls, indexes, shuts, comma, brace, joins, role_of, takes, closed_at, with_comma, on_need, on_key, on_role, step, Outcome, go}
 use Rattle.js_parser.proofs.Tokens.{both_true, not_true, operator_role, dot_stays, bracket_stays, comma_stays, brace_stays, ends_no}
 use Rattle.js_parser.proofs.Collapse.{Ends, ends_kind, more_ends, then_go, have_step, have_role, open_stepped}
 use Rattle.js_parser.proofs.Places.{need_sign}

@@ -1,36 +1,27 @@
 -- Each token that the machine takes leaves a state that has read it too.
-use Rattle.std.proofs.Common.{◌≡◌, ℕ, ◌≤◌, Bool, true, false, not, ◌&&◌, ◌||◌, List, [], ◌∷◌, Option, Some, None, refl, sym, ap, ◌∙◌, arith, subst, suc, inl, inr, ◌⊎◌, le-leb}
-use Rattle.std.specs.Prelude.{if◌then◌else◌, nat_le, nat_lt, ◌==◌}
-use Rattle.std.proofs.lemmas.Bool.{leb-true, eqb-true}
+use Rattle.std.proofs.Common.{◌≡◌, ◌≤◌, Bool, true, false, List, [], ◌∷◌, Option, Some, None, refl, sym, ap, ◌∙◌, arith, subst, inl, inr, le-leb}
+use Rattle.std.specs.Prelude.{if◌then◌else◌}
 use Rattle.qml_base.specs.declared.numbers.Place.{Place}
 use Rattle.qml_syntax.specs.declared.token.TokenKind.{TokenKind}
 use Rattle.qml_syntax.specs.declared.token.TokenKind.TheVariants as k
-use Rattle.qml_syntax.specs.declared.mark.Mark.{Mark}
 use Rattle.qml_syntax.specs.declared.mark.Mark.TheVariants as m
 use Rattle.qml_syntax.specs.declared.word.Word.TheVariants as w
 use Rattle.qml_syntax.specs.declared.token.Token.{Token}
-use Rattle.qml_syntax.specs.declared.operators.Operator.{Operator}
 use Rattle.qml_syntax.specs.declared.operators.Prefix.{Prefix}
 use Rattle.qml_syntax.specs.declared.operators.Prefix.TheVariants as g
-use Rattle.qml_syntax.specs.declared.operators.Postfix.{Postfix}
-use Rattle.qml_syntax.specs.declared.operators.Postfix.TheVariants as b
-use Rattle.qml_syntax.specs.declared.operators.Assignment.{Assignment}
-use Rattle.qml_syntax.specs.declared.operators.Assignment.TheVariants as u
 use Rattle.qml_syntax.specs.declared.literal.Literal.TheVariants as x
-use Rattle.qml_syntax.specs.declared.literal.Declaration.{Declaration}
-use Rattle.qml_syntax.specs.declared.literal.Declaration.TheVariants as v
-use Rattle.qml_syntax.specs.Spelling.{operator_mark, prefix_kind, postfix_mark, assignment_mark, key_kind, declaration_word}
-use Rattle.qml_syntax.specs.Tree.{Units, Close, semi, auto, Expr, name, number, text, literal, paren, list, fields, steps, bumped, signed, chain, choose, assign, no_exprs, no_fields, a_field, Step, member, element, call, binding, no_steps, Stmt, empty, expr, block, declare, when, either, while, for, give, stop, again, no_stmts, Vars, last_var, a_var, Maybe, nothing, just, First, no_first, first_expr, first_declare}
-use Rattle.qml_syntax.specs.Levels.{level, operand, tightness, is_target, is_bump, is_open, Reached, at_qt, at_binding, elsewhere}
-use Rattle.qml_syntax.specs.Ends.{One, a_token, Sees, seen, OnLine, Lacks, Last, bare, last_of, last_vars, last_maybe, goes_on, EndsBefore, AloneBefore, ReadsClose, c_semi, c_auto, ClosesAlone, b_semi, b_auto}
-use Rattle.qml_syntax.specs.Reads.{Reads, r_name, r_number, r_text, r_literal, r_paren, r_list, r_fields, r_bumped, e_none, e_last, f_none, f_last, no_comma, a_comma, ReadsStep, p_member, p_element, p_call, p_binding, ReadsStmt, s_empty, s_expr, s_block, s_declare, s_when, s_either, s_while, s_for, s_give, s_give_value, s_stop, s_again, ss_none, v_last, i_none, i_value, y_none, y_some, z_none, z_expr, z_declare}
-use Rattle.js_parser.specs.Frames.{Field, Var, exprs_onto, fields_onto, stepped, reached, vars_onto, stmts_onto, Where, in_body, in_header, Frame, in_alone, in_one, in_list, in_paren, in_items, in_field, in_args, in_element, in_sign, in_chain, in_then, in_else, in_assign, in_expr, in_give, in_value, in_if, in_while, in_first, in_test, in_next, in_when, in_either, in_loop, in_for, in_block, in_function, Frames, Jump, breaks, continues, jump, State, need, have, dotted, at_key, begin, did, at_give, at_jump, at_name, named, at_first, at_test, at_next, expects}
-use Rattle.js_parser.specs.Machine.{Role, joins, updates, bumps, question, dot, calls, indexes, colon, closes, shuts, comma, semicolon, brace, other, role_of, is_brace, is_semi, is_else, ends_line, ends_alone, Entry, takes, doing, looping, Held, held, closed_at, Placed, placed, over, on_sign, without_args, ends_items, at_function, on_function, on_need, some_fields_back, on_key, ends_block, on_jump, on_begin, on_placed, on_else, on_did, begins_chain, with_operator, with_update, with_question, with_colon, with_paren, with_bracket, with_comma, with_semi, with_end, with_brace, on_role, on_have, on_dotted, on_alone, on_name, named_semi, named_end, on_named, on_first, on_test, on_next, is_mark, step}
-use Rattle.js_parser.proofs.Tokens.{both, both_true, not_true, true_or_false, either_true, operand_le_thirteen, KindFits, role_fits, ends_tell, brace_is, semi_is, else_is, is_not_else}
-use Rattle.js_parser.proofs.Collapse.{stepped_tight, have_role}
-use Rattle.js_parser.proofs.Places.{takes_up, takes_steps, takes_sign}
-use Rattle.js_parser.proofs.Opened.{OpenExprs, oe_none, oe_more, exprs_closed, some_exprs_onto, OpenFields, of_none, of_more, fields_closed, some_fields_onto, OpenVars, ov_none, ov_more, vars_closed, OpenStmts, os_none, os_more, stmts_closed, ReadsBack, rb_none, rb_more, back_reads, OpenSigns, og_first, og_more, OpenChain, oc_first, oc_more, OpenThen, ot_first, ot_more, OpenAssign, oa_first, oa_more}
-use Rattle.js_parser.proofs.Left.{jump_kind, Left, l_alone, l_one, l_list, l_paren, l_items, l_field, l_args, l_element, l_sign, l_chain, l_then, l_else, l_assign, l_expr, l_give, l_value, l_if, l_while, l_first, l_test, l_next, l_when, l_either, l_loop, l_for, l_block, l_function, LeftAt, w_body, w_header, HeldReads, PlacedReads, StateReads, closed_reads}
+use Rattle.qml_syntax.specs.Spelling.{prefix_kind}
+use Rattle.qml_syntax.specs.Tree.{Expr, name, number, text, literal, list, fields, no_exprs, no_fields, a_field, Step, call, binding, Stmt, when, either, while, for, no_stmts}
+use Rattle.qml_syntax.specs.Levels.{tightness, is_bump, Reached, at_qt, at_binding, elsewhere}
+use Rattle.qml_syntax.specs.Ends.{One, a_token, Sees, seen, Lacks}
+use Rattle.qml_syntax.specs.Reads.{Reads, r_name, r_number, r_text, r_literal, r_list, r_fields, e_none, e_last, f_none, f_last, no_comma, a_comma, ReadsStep, p_call, p_binding, ReadsStmt, s_empty, s_block, s_when, s_either, s_while, s_for, ss_none}
+use Rattle.js_parser.specs.Frames.{Field, exprs_onto, fields_onto, stepped, reached, stmts_onto, in_list, in_items, in_args, in_sign, in_expr, in_when, in_either, in_loop, in_for, in_block, in_function, Frames, Jump, breaks, continues, State, need, have, at_key, at_jump}
+use Rattle.js_parser.specs.Machine.{is_else, Entry, takes, doing, looping, Placed, placed, over, on_sign, without_args, ends_items, at_function, on_function, on_need, some_fields_back, on_key, ends_block, on_jump, on_begin, on_placed, on_else, on_did}
+use Rattle.js_parser.proofs.Tokens.{true_or_false, else_is, is_not_else}
+use Rattle.js_parser.proofs.Collapse.{stepped_tight}
+use Rattle.js_parser.proofs.Places.{takes_steps, takes_sign}
+use Rattle.js_parser.proofs.Opened.{oe_none, oe_more, exprs_closed, some_exprs_onto, OpenFields, of_none, of_more, fields_closed, some_fields_onto, ov_none, os_none, os_more, stmts_closed, ReadsBack, rb_none, rb_more, og_first, og_more}
+use Rattle.js_parser.proofs.Left.{jump_kind, Left, l_list, l_paren, l_items, l_field, l_args, l_sign, l_expr, l_if, l_while, l_when, l_either, l_loop, l_for, l_block, l_function, w_body, w_header, PlacedReads, StateReads}
 
 -- ---- choices that gave a state
 
@@ -150,8 +141,8 @@ block_reads : (y : Entry) (fs : Frames) (s rest : List Token) (t : Token) (next 
 block_reads y (in_block p back ∷ fs) s rest t next q (l_block {a = a} l g one o) h = moved y s rest (some_is h) (a, l, g, s_block one (stmts_closed o ss_none) (seen q))
 block_reads y (in_function e ss p back ∷ fs) s rest t next q (l_function {a = a} {b = c} l tk rb tight at q1 q2 q3 q4 q5 o) h =
     moved y s rest (some_is h) (λ u more e1 w1.
-      let P : Reached → Type 0 = λ z. ReadsStep z (binding p (stmts_onto back no_stmts)) c more in
-      stepped_reads y e (binding p (stmts_onto back no_stmts)) ss fs s a c more l tk rb tight (subst P (sym at) (p_binding q1 q2 q3 q4 q5 (stmts_closed o ss_none) (seen q) (see_at u rest more e1 w1))))
+    let P : Reached → Type 0 = λ z. ReadsStep z (binding p (stmts_onto back no_stmts)) c more in
+    stepped_reads y e (binding p (stmts_onto back no_stmts)) ss fs s a c more l tk rb tight (subst P (sym at) (p_binding q1 q2 q3 q4 q5 (stmts_closed o ss_none) (seen q) (see_at u rest more e1 w1))))
 block_reads y _ s rest t next q l h = cc
 
 jump_reads : (y : Entry) (j : Jump) (fs : Frames) (s rest : List Token) (t : Token) (next : State) → t.what ≡ jump_kind j → Left y fs s (t ∷ rest) → doing fs ≡ true → on_jump j t.place fs ≡ Some next → StateReads y next s rest
@@ -182,5 +173,6 @@ pub on_did_reads : (y : Entry) (d : Stmt) (fs : Frames) (s a rest : List Token) 
 on_did_reads y d fs s a rest t next l g x h =
     let P : Bool → Option State = λ v. if v then on_else fs d else on_placed (over fs d) t.place t.what in
     elim (true_or_false (is_else t.what)) [
-      inl c ↦ else_reads y fs d s a rest t next (else_is t.what c) l x (sym (ap P c) ∙ h)
-    | inr c ↦ placed_step y (over fs d) s rest t next (over_reads y fs d s a (t ∷ rest) l g x (is_not_else t.what c)) (sym (ap P c) ∙ h) ]
+      | inl c ↦ else_reads y fs d s a rest t next (else_is t.what c) l x (sym (ap P c) ∙ h)
+      | inr c ↦ placed_step y (over fs d) s rest t next (over_reads y fs d s a (t ∷ rest) l g x (is_not_else t.what c)) (sym (ap P c) ∙ h)
+    ]

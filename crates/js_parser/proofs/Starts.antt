@@ -1,6 +1,5 @@
 -- What an expression begins with, and the states that such a token leaves for an expression.
-use Rattle.std.proofs.Common.{◌≡◌, ℕ, ◌≤◌, Bool, true, false, not, ◌&&◌, ◌||◌, List, [], ◌∷◌, Option, Some, None, refl, sym, ap, ◌∙◌, arith, subst, inl, inr, ◌⊎◌}
-use Rattle.std.specs.Prelude.{if◌then◌else◌}
+use Rattle.std.proofs.Common.{◌≡◌, Bool, false, ◌||◌, List, [], ◌∷◌, Option, None, refl, sym, ap, ◌∙◌, subst}
 use Rattle.qml_base.specs.declared.numbers.Place.{Place}
 use Rattle.qml_syntax.specs.declared.token.TokenKind.{TokenKind}
 use Rattle.qml_syntax.specs.declared.token.TokenKind.TheVariants as k
@@ -16,8 +15,7 @@ use Rattle.qml_syntax.specs.Tree.{Expr, Maybe, nothing, First, give}
 use Rattle.qml_syntax.specs.Ends.{One, a_token, Lacks, OnLine}
 use Rattle.qml_syntax.specs.Reads.{Reads, r_name, r_number, r_text, r_literal, r_paren, r_list, r_fields, r_steps, r_bumped, r_signed, r_chain, r_choose, r_assign}
 use Rattle.js_parser.specs.Frames.{Frames, State, need, begin, at_give, at_first, at_test, at_next, in_expr, in_give, in_first, in_test, in_next}
-use Rattle.js_parser.specs.Machine.{Whole, Outcome, go_on, go, finish, step, on_need, on_begin, on_first, on_test, on_next, on_alone, ends_alone, is_brace, is_semi, on_did}
-use Rattle.js_parser.proofs.Tokens.{both}
+use Rattle.js_parser.specs.Machine.{Whole, Outcome, go_on, go, finish, on_need, on_begin, on_first, on_test, on_next, on_alone, ends_alone, is_brace, is_semi}
 
 abbrev pub StartKind : TokenKind → Type 0
 StartKind (k.Name n) = Unit {0}

@@ -1,6 +1,6 @@
 -- Each token that the machine takes leaves a state that has read it: behind an expression, and all states.
-use Rattle.std.proofs.Common.{◌≡◌, ℕ, ◌≤◌, Bool, true, false, not, ◌&&◌, ◌||◌, List, [], ◌∷◌, Option, Some, None, refl, sym, ap, ◌∙◌, arith, subst, suc, inl, inr, ◌⊎◌, le-leb}
-use Rattle.std.specs.Prelude.{if◌then◌else◌, nat_le, nat_lt, ◌==◌}
+use Rattle.std.proofs.Common.{◌≡◌, ◌≤◌, Bool, true, false, not, ◌&&◌, ◌||◌, List, [], ◌∷◌, Option, Some, None, refl, sym, ap, ◌∙◌, arith, subst, inl, inr, le-leb}
+use Rattle.std.specs.Prelude.{if◌then◌else◌, nat_le, ◌==◌}
 use Rattle.std.proofs.lemmas.Bool.{leb-true, eqb-true}
 use Rattle.qml_base.specs.declared.numbers.Place.{Place}
 use Rattle.qml_syntax.specs.declared.token.TokenKind.{TokenKind}
@@ -10,28 +10,24 @@ use Rattle.qml_syntax.specs.declared.mark.Mark.TheVariants as m
 use Rattle.qml_syntax.specs.declared.word.Word.TheVariants as w
 use Rattle.qml_syntax.specs.declared.token.Token.{Token}
 use Rattle.qml_syntax.specs.declared.operators.Operator.{Operator}
-use Rattle.qml_syntax.specs.declared.operators.Prefix.{Prefix}
-use Rattle.qml_syntax.specs.declared.operators.Prefix.TheVariants as g
 use Rattle.qml_syntax.specs.declared.operators.Postfix.{Postfix}
 use Rattle.qml_syntax.specs.declared.operators.Postfix.TheVariants as b
 use Rattle.qml_syntax.specs.declared.operators.Assignment.{Assignment}
 use Rattle.qml_syntax.specs.declared.operators.Assignment.TheVariants as u
-use Rattle.qml_syntax.specs.declared.literal.Literal.TheVariants as x
 use Rattle.qml_syntax.specs.declared.literal.Declaration.{Declaration}
-use Rattle.qml_syntax.specs.declared.literal.Declaration.TheVariants as v
-use Rattle.qml_syntax.specs.Spelling.{operator_mark, prefix_kind, postfix_mark, assignment_mark, key_kind, declaration_word}
-use Rattle.qml_syntax.specs.Tree.{Units, Close, semi, auto, Expr, name, number, text, literal, paren, list, fields, steps, bumped, signed, chain, choose, assign, no_exprs, no_fields, a_field, Step, member, element, call, binding, no_steps, Stmt, empty, expr, block, declare, when, either, while, for, give, stop, again, no_stmts, Vars, last_var, a_var, Maybe, nothing, just, First, no_first, first_expr, first_declare}
-use Rattle.qml_syntax.specs.Levels.{level, operand, tightness, is_target, is_bump, is_open, Reached, at_qt, at_binding, elsewhere}
-use Rattle.qml_syntax.specs.Ends.{One, a_token, Sees, seen, OnLine, Lacks, Last, bare, last_of, last_vars, last_maybe, goes_on, EndsBefore, AloneBefore, ReadsClose, c_semi, c_auto, ClosesAlone, b_semi, b_auto}
-use Rattle.qml_syntax.specs.Reads.{Reads, r_name, r_number, r_text, r_literal, r_paren, r_list, r_fields, r_bumped, e_none, e_last, f_none, f_last, no_comma, a_comma, ReadsStep, p_member, p_element, p_call, p_binding, ReadsStmt, s_empty, s_expr, s_block, s_declare, s_when, s_either, s_while, s_for, s_give, s_give_value, s_stop, s_again, ss_none, v_last, i_none, i_value, y_none, y_some, z_none, z_expr, z_declare}
-use Rattle.js_parser.specs.Frames.{Field, Var, exprs_onto, fields_onto, stepped, reached, vars_onto, stmts_onto, Where, in_body, in_header, Frame, in_alone, in_one, in_list, in_paren, in_items, in_field, in_args, in_element, in_sign, in_chain, in_then, in_else, in_assign, in_expr, in_give, in_value, in_if, in_while, in_first, in_test, in_next, in_when, in_either, in_loop, in_for, in_block, in_function, Frames, Jump, breaks, continues, jump, State, need, have, dotted, at_key, begin, did, at_give, at_jump, at_name, named, at_first, at_test, at_next, expects}
-use Rattle.js_parser.specs.Machine.{Role, joins, updates, bumps, question, dot, calls, indexes, colon, closes, shuts, comma, semicolon, brace, other, role_of, is_brace, is_semi, is_else, ends_line, ends_alone, Entry, takes, doing, looping, Held, held, closed_at, Placed, placed, over, on_sign, without_args, ends_items, at_function, on_function, on_need, some_fields_back, on_key, ends_block, on_jump, on_begin, on_placed, on_else, on_did, begins_chain, with_operator, with_update, with_question, with_colon, with_paren, with_bracket, with_comma, with_semi, with_end, with_brace, on_role, on_have, on_dotted, on_alone, on_name, named_semi, named_end, on_named, on_first, on_test, on_next, is_mark, step}
-use Rattle.js_parser.proofs.Tokens.{both, both_true, not_true, true_or_false, either_true, or_right, operand_le_thirteen, KindFits, role_fits, ends_tell, brace_is, semi_is, else_is, is_not_else}
-use Rattle.js_parser.proofs.Collapse.{stepped_tight, have_role}
-use Rattle.js_parser.proofs.Places.{takes_up, takes_steps, takes_sign}
-use Rattle.js_parser.proofs.Opened.{OpenExprs, oe_none, oe_more, exprs_closed, some_exprs_onto, OpenFields, of_none, of_more, fields_closed, some_fields_onto, OpenVars, ov_none, ov_more, vars_closed, OpenStmts, os_none, os_more, stmts_closed, ReadsBack, rb_none, rb_more, back_reads, OpenSigns, og_first, og_more, OpenChain, oc_first, oc_more, OpenThen, ot_first, ot_more, OpenAssign, oa_first, oa_more}
-use Rattle.js_parser.proofs.Sound.{chosen, moved, see_at, one_sees, steps_takes, stepped_reads, on_need_reads, on_key_reads, on_begin_reads, on_did_reads}
-use Rattle.js_parser.proofs.Left.{jump_kind, Left, l_alone, l_one, l_list, l_paren, l_items, l_field, l_args, l_element, l_sign, l_chain, l_then, l_else, l_assign, l_expr, l_give, l_value, l_if, l_while, l_first, l_test, l_next, l_when, l_either, l_loop, l_for, l_block, l_function, LeftAt, w_body, w_header, HeldReads, PlacedReads, StateReads, closed_reads}
+use Rattle.qml_syntax.specs.Spelling.{operator_mark, postfix_mark, assignment_mark}
+use Rattle.qml_syntax.specs.Tree.{Units, Close, semi, auto, Expr, bumped, no_exprs, Step, member, element, call, Stmt, expr, declare, give, stop, again, Vars, last_var, a_var, Maybe, nothing, just, First}
+use Rattle.qml_syntax.specs.Levels.{level, operand, tightness, is_target, is_open}
+use Rattle.qml_syntax.specs.Ends.{One, a_token, seen, Last, bare, last_of, last_vars, goes_on, EndsBefore, AloneBefore, ReadsClose, c_semi, c_auto, ClosesAlone, b_semi, b_auto}
+use Rattle.qml_syntax.specs.Reads.{Reads, r_paren, r_list, r_fields, r_bumped, e_last, f_last, no_comma, p_member, p_element, p_call, ReadsStmt, s_expr, s_declare, s_give, s_give_value, s_stop, s_again, v_last, i_none, i_value, y_none, y_some, z_none, z_expr, z_declare}
+use Rattle.js_parser.specs.Frames.{Var, exprs_onto, stepped, vars_onto, Where, in_body, in_header, in_paren, in_items, in_field, in_args, in_element, in_chain, in_then, in_else, in_assign, in_expr, in_give, in_value, in_if, in_while, in_first, in_test, in_next, Frames, Jump, breaks, continues, jump, State, need, have, dotted, at_key, begin, did, at_give, at_jump, at_name, named, at_first, at_test, at_next, expects}
+use Rattle.js_parser.specs.Machine.{Role, joins, updates, bumps, question, dot, calls, indexes, colon, closes, shuts, comma, semicolon, brace, other, role_of, is_brace, is_semi, ends_line, ends_alone, Entry, takes, doing, looping, Held, held, closed_at, on_need, on_did, begins_chain, with_operator, with_update, with_question, with_colon, with_paren, with_bracket, with_comma, with_semi, with_end, with_brace, on_role, on_have, on_dotted, on_alone, on_name, named_semi, named_end, on_named, on_first, on_test, on_next, is_mark, step}
+use Rattle.js_parser.proofs.Tokens.{both, both_true, true_or_false, either_true, or_right, operand_le_thirteen, KindFits, role_fits, ends_tell, brace_is, semi_is}
+use Rattle.js_parser.proofs.Collapse.{stepped_tight}
+use Rattle.js_parser.proofs.Places.{takes_up}
+use Rattle.js_parser.proofs.Opened.{oe_none, oe_more, exprs_closed, of_more, fields_closed, ov_none, ov_more, vars_closed, rb_none, back_reads, oc_first, oc_more, ot_first, ot_more, oa_first, oa_more}
+use Rattle.js_parser.proofs.Sound.{chosen, moved, stepped_reads, on_need_reads, on_key_reads, on_begin_reads, on_did_reads}
+use Rattle.js_parser.proofs.Left.{jump_kind, Left, l_paren, l_items, l_field, l_args, l_element, l_chain, l_then, l_else, l_assign, l_expr, l_give, l_value, l_if, l_while, l_first, l_test, l_next, l_when, l_loop, l_for, w_body, HeldReads, StateReads, closed_reads}
 
 some_state : {x z : State} → Some x ≡ Some z → x ≡ z
 some_state h = cc
@@ -50,10 +46,11 @@ operator_reads y ready op (held e (in_chain c back h p ∷ fs)) s rest t next q 
     let more = in_chain c ((h, p, e) ∷ back) op t.place ∷ fs in
     let P : Bool → Option State = λ v. if v then Some (need more) else begins_chain op t.place e here in
     elim (true_or_false (level h == level op)) [
-      inl d ↦
-        let same : level h ≡ level op = eqb-true (level h) (level op) d in
-        moved y s rest (some_state (sym (ap P d) ∙ w)) (l_chain l (ap (takes fs) (sym same) ∙ tk) (oc_more o r (leb-true (operand h) (tightness e) z) same (a_token q)), le-leb (operand op) 16 (omega (arith, operand_le_thirteen op)))
-    | inr d ↦ begins_reads y op e here s a rest t next q (l_chain l tk o) r (sym (ap P d) ∙ w) ]
+      | inl d ↦
+          let same : level h ≡ level op = eqb-true (level h) (level op) d in
+          moved y s rest (some_state (sym (ap P d) ∙ w)) (l_chain l (ap (takes fs) (sym same) ∙ tk) (oc_more o r (leb-true (operand h) (tightness e) z) same (a_token q)), le-leb (operand op) 16 (omega (arith, operand_le_thirteen op)))
+      | inr d ↦ begins_reads y op e here s a rest t next q (l_chain l tk o) r (sym (ap P d) ∙ w)
+    ]
 operator_reads y ready op (held e fs) s rest t next q (a, l, r, z, n) w = begins_reads y op e fs s a rest t next q l r w
 
 update_reads : (y : Entry) (i : Assignment) (e : Expr) (fs : Frames) (s a rest : List Token) (t : Token) (next : State) → t.what ≡ k.Mark (assignment_mark i) → Left y fs s a → Reads e a (t ∷ rest) → with_update i t.place e fs ≡ Some next → StateReads y next s rest
@@ -143,8 +140,9 @@ takes_all fs e (i ∷ back) h t = takes_up fs 15 16 (ap (takes fs) (sym (stepped
 bump_line : (c : Bool) (i : Postfix) (t : Token) → t.what ≡ k.Mark (postfix_mark i) → ends_line (last_of c) t ≡ false → t.after_line ≡ false
 bump_line c i t q h =
     elim (true_or_false t.after_line) [
-      inl l ↦ let d : ends_line (last_of c) t ≡ true = both t.after_line (not (goes_on (last_of c) t.what)) l (ap not (ap (goes_on (last_of c)) q ∙ stops c i)) in cc
-    | inr l ↦ l ]
+      | inl l ↦ let d : ends_line (last_of c) t ≡ true = both t.after_line (not (goes_on (last_of c) t.what)) l (ap not (ap (goes_on (last_of c)) q ∙ stops c i)) in cc
+      | inr l ↦ l
+    ]
   where
     stops : (c : Bool) (i : Postfix) → goes_on (last_of c) (k.Mark (postfix_mark i)) ≡ false
     stops true b.Increment = refl
@@ -185,8 +183,9 @@ on_have_reads y e ss fs s rest t next (a, l, rb, z, p) w =
     let whole = stepped e ss in
     let P : Bool → Option State = λ v. if v then with_end (closed_at fs 0 whole) t else on_role e ss fs t (role_of t.what) in
     elim (true_or_false (ends_line (last_of (is_open whole)) t)) [
-      inl c ↦ end_reads y (is_open whole) (closed_at fs 0 whole) s rest t next (inr (ends_tell (last_of (is_open whole)) t c)) (closed_reads y fs 0 whole (is_open whole) s a (t ∷ rest) l (back_reads rb) z refl) (sym (ap P c) ∙ w)
-    | inr c ↦ role_reads y e ss fs s rest t next (a, l, rb, z, p) c (role_of t.what) (role_fits t.what (role_of t.what) refl) (sym (ap P c) ∙ w) ]
+      | inl c ↦ end_reads y (is_open whole) (closed_at fs 0 whole) s rest t next (inr (ends_tell (last_of (is_open whole)) t c)) (closed_reads y fs 0 whole (is_open whole) s a (t ∷ rest) l (back_reads rb) z refl) (sym (ap P c) ∙ w)
+      | inr c ↦ role_reads y e ss fs s rest t next (a, l, rb, z, p) c (role_of t.what) (role_fits t.what (role_of t.what) refl) (sym (ap P c) ∙ w)
+    ]
 
 -- ---- the other states
 
@@ -206,13 +205,15 @@ on_alone_reads y make fs s a b rest t next so l g reads others w =
     let P : Bool → Option State = λ v. if v then on_did (make auto) fs t else (if is_semi t.what then Some (did (make semi) fs) else so) in
     let Q : Bool → Option State = λ v. if v then Some (did (make semi) fs) else so in
     elim (true_or_false (ends_alone t)) [
-      inl c ↦ on_did_reads y (make auto) fs s a rest t next l g (reads auto (t ∷ rest) (b_auto (alone_tell t c))) (sym (ap P c) ∙ w)
-    | inr c ↦
-        let line = alone_line t c in
-        let v = sym (ap P c) ∙ w in
-        elim (true_or_false (is_semi t.what)) [
-          inl d ↦ moved y s rest (some_state (sym (ap Q d) ∙ v)) (a, l, g, reads semi rest (b_semi line (seen (semi_is t.what d))))
-        | inr d ↦ others line (sym (ap Q d) ∙ v) ] ]
+      | inl c ↦ on_did_reads y (make auto) fs s a rest t next l g (reads auto (t ∷ rest) (b_auto (alone_tell t c))) (sym (ap P c) ∙ w)
+      | inr c ↦
+          let line = alone_line t c in
+          let v = sym (ap P c) ∙ w in
+          elim (true_or_false (is_semi t.what)) [
+            | inl d ↦ moved y s rest (some_state (sym (ap Q d) ∙ v)) (a, l, g, reads semi rest (b_semi line (seen (semi_is t.what d))))
+            | inr d ↦ others line (sym (ap Q d) ∙ v)
+          ]
+    ]
 
 pub jump_stmt : (j : Jump) (p : Place) (looped : Bool) (c : Close) (a b rest : List Token) → looped ≡ true → One (jump_kind j) p a b → ClosesAlone c b rest → ReadsStmt looped (jump j p c) a rest
 jump_stmt breaks p looped c a b rest lp one close = let P : Bool → Type 0 = λ z. ReadsStmt z (stop p c) a rest in subst P (sym lp) (s_stop one close)
@@ -234,8 +235,9 @@ named_end_reads y in_body p i back n j fs s rest t next (a, c, d, w_body l g, on
     let whole = declare p i (vars_onto back (last_var n j nothing)) auto in
     let P : Bool → Option State = λ v. if v then on_did whole fs t else None in
     elim (true_or_false (is_brace t.what || ends_line bare t)) [
-      inl e ↦ on_did_reads y whole fs s a rest t next l g (s_declare one (vars_closed o (v_last nm i_none)) (ends_before bare (last_vars (vars_onto back (last_var n j nothing))) rest t (sym (last_onto back (last_var n j nothing))) (before_tell t e))) (sym (ap P e) ∙ w)
-    | inr e ↦ let f : None ≡ Some next = sym (ap P e) ∙ w in cc ]
+      | inl e ↦ on_did_reads y whole fs s a rest t next l g (s_declare one (vars_closed o (v_last nm i_none)) (ends_before bare (last_vars (vars_onto back (last_var n j nothing))) rest t (sym (last_onto back (last_var n j nothing))) (before_tell t e))) (sym (ap P e) ∙ w)
+      | inr e ↦ let f : None ≡ Some next = sym (ap P e) ∙ w in cc
+    ]
 named_end_reads y (in_header h) p i back n j fs s rest t next r w = cc
 
 on_named_reads : (y : Entry) (h : Where) (p : Place) (i : Declaration) (back : List Var) (n : Units) (j : Place) (fs : Frames) (r : Role) (s rest : List Token) (t : Token) (next : State) → KindFits t.what r → StateReads y (named h p i back n j fs) s (t ∷ rest) → on_named h p i back n j fs t r ≡ Some next → StateReads y next s rest

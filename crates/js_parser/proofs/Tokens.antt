@@ -1,11 +1,9 @@
 -- What single tokens are to the machine, and facts of the levels.
-use Rattle.std.proofs.Common.{◌≡◌, ℕ, ◌≤◌, ◌<◌, Bool, true, false, not, ◌&&◌, ◌||◌, List, [], ◌∷◌, Option, Some, None, refl, sym, ap, ◌∙◌, arith, suc, subst, inl, inr, ◌⊎◌, le-leb}
-use Rattle.std.specs.Prelude.{nat_le, nat_lt, ◌==◌, if◌then◌else◌}
+use Rattle.std.proofs.Common.{◌≡◌, ◌≤◌, Bool, true, false, not, ◌&&◌, ◌||◌, refl, sym, ap, ◌∙◌, arith, suc, subst, inl, inr, ◌⊎◌}
 use Rattle.qml_syntax.specs.declared.token.TokenKind.{TokenKind}
 use Rattle.qml_syntax.specs.declared.token.TokenKind.TheVariants as k
 use Rattle.qml_syntax.specs.declared.mark.Mark.{Mark}
 use Rattle.qml_syntax.specs.declared.mark.Mark.TheVariants as m
-use Rattle.qml_syntax.specs.declared.word.Word.{Word}
 use Rattle.qml_syntax.specs.declared.word.Word.TheVariants as w
 use Rattle.qml_syntax.specs.declared.token.Token.{Token}
 use Rattle.qml_syntax.specs.declared.operators.Operator.{Operator}
@@ -16,8 +14,8 @@ use Rattle.qml_syntax.specs.declared.operators.Postfix.{Postfix}
 use Rattle.qml_syntax.specs.declared.operators.Postfix.TheVariants as b
 use Rattle.qml_syntax.specs.Spelling.{operator_mark, assignment_mark, postfix_mark}
 use Rattle.qml_syntax.specs.Levels.{level, operand}
-use Rattle.qml_syntax.specs.Ends.{Last, bare, shut, callable, last_of, goes_on, goes_on_mark}
-use Rattle.js_parser.specs.Machine.{Role, joins, updates, bumps, question, dot, calls, indexes, colon, closes, shuts, comma, semicolon, brace, other, role_of, role_of_mark, is_brace, is_semi, is_else, ends_line, ends_alone}
+use Rattle.qml_syntax.specs.Ends.{Last, last_of, goes_on}
+use Rattle.js_parser.specs.Machine.{Role, joins, updates, bumps, question, dot, calls, indexes, colon, closes, shuts, comma, semicolon, brace, other, role_of, role_of_mark, is_brace, is_semi, is_else, ends_line}
 
 -- ---- tests
 

@@ -1,5 +1,5 @@
 -- What a reader keeps open: the parts of trees that are read so far. In a list the latest stands in front.
-use Rattle.std.specs.Prelude.{◌≡◌, ℕ, Bool, true, false, List, [], ◌∷◌}
+use Rattle.std.specs.Prelude.{Bool, List, [], ◌∷◌}
 use Rattle.qml_base.specs.declared.numbers.Place.{Place}
 use Rattle.qml_syntax.specs.declared.mark.Mark.{Mark}
 use Rattle.qml_syntax.specs.declared.operators.Operator.{Operator}
@@ -130,17 +130,17 @@ jump continues p c = again p c
 -- ---- states: what has just been read, over what is open
 
 pub data State : Type 0 where
-  need : Frames → State                                                    -- an expression is to come
-  have : Expr → List Step → Frames → State                                 -- an expression with steps behind it
-  dotted : Expr → List Step → Frames → State                               -- .. and a dot
-  at_key : Place → List Field → Frames → State                             -- a key or `}` is to come
-  begin : Frames → State                                                   -- a statement is to come
-  did : Stmt → Frames → State                                              -- a statement, which an `else` may follow
-  at_give : Place → Frames → State                                         -- `return`
-  at_jump : Jump → Place → Frames → State                                  -- `break` or `continue`
-  at_name : Where → Place → Declaration → List Var → Frames → State        -- a declared name is to come
+  need : Frames → State  -- an expression is to come
+  have : Expr → List Step → Frames → State  -- an expression with steps behind it
+  dotted : Expr → List Step → Frames → State  -- .. and a dot
+  at_key : Place → List Field → Frames → State  -- a key or `}` is to come
+  begin : Frames → State  -- a statement is to come
+  did : Stmt → Frames → State  -- a statement, which an `else` may follow
+  at_give : Place → Frames → State  -- `return`
+  at_jump : Jump → Place → Frames → State  -- `break` or `continue`
+  at_name : Where → Place → Declaration → List Var → Frames → State  -- a declared name is to come
   named : Where → Place → Declaration → List Var → Units → Place → Frames → State
-  at_first : Place → Frames → State                                        -- the parts of a `for` are to come
+  at_first : Place → Frames → State  -- the parts of a `for` are to come
   at_test : Place → First → Frames → State
   at_next : Place → First → Maybe → Frames → State
-  expects : Mark → State → State                                           -- this mark is to come
+  expects : Mark → State → State  -- this mark is to come
