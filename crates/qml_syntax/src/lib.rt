@@ -1,13 +1,20 @@
 //! What documents, script files and bodies are written in: tokens, each with its kind, its place and whether a line end
-//! stands before it. A token's spellings, and which tokens given bytes have, are the matter of the crate above this one
-//! that reads them. The types stand here, so that definitions and code speak of the same values; each call on them says
-//! exactly what it answers.
+//! stands before it, and the parts of expressions. A token's spellings, and which tokens given bytes have, are the matter
+//! of the crate above this one that reads them. The definitions of `specs/` say what trees of expressions and statements
+//! are, which tokens a tree reads (`Reads`), how a tree is written out (`Flat`) and how deep its nodes stand (`Depth`);
+//! the laws over them are the contracts of the calls in `laws`. The types stand here, so that definitions and code speak
+//! of the same values; each call on them says exactly what it answers.
 #![tactic(auto)]
 
+pub mod laws;
+mod literal;
 mod mark;
+mod operators;
 mod token;
 mod word;
 
+pub use literal::{Declaration, Literal};
 pub use mark::Mark;
+pub use operators::{Assignment, Operator, Postfix, Prefix};
 pub use token::{Token, TokenKind};
 pub use word::Word;

@@ -1,0 +1,14 @@
+pub mod Tokens
+pub mod Collapse
+pub mod Places
+pub mod Starts
+pub mod Closes
+pub mod Signs
+pub mod Complete
+pub mod Opened
+pub mod Left
+pub mod Sound
+pub mod Steps
+pub mod Endings
+pub mod Exact
+pub mod Fronts

@@ -1,0 +1,4 @@
+pub mod Frames
+pub mod Machine
+pub mod Answer
+pub mod Front

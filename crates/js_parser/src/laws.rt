@@ -1,0 +1,42 @@
+//! Laws of the definitions, each as the contract of a call that does nothing.
+
+ghost use Rattle.std.specs.Prelude.{◌≡◌, ℕ, ◌<◌, length, false, List, []};
+ghost use Rattle.qml_syntax.specs.declared.token.Token.{Token};
+ghost use Rattle.qml_syntax.specs.Tree.{Expr, Stmt, Stmts};
+ghost use Rattle.qml_syntax.specs.Reads.{Reads, ReadsStmt, ReadsStmts};
+ghost use Rattle.js_parser.specs.Machine.{Entry, go, start_of};
+ghost use Rattle.js_parser.specs.Answer.{IsAnswer};
+ghost use Rattle.js_parser.specs.Front.{AreWhole, FrontAnswer, parse_of};
+
+/// At most one expression reads given tokens.
+#[tactic(auto, using(crate::proofs::Exact::one_expression))]
+pub fn one_expression()
+    ensures { (tokens : List Token) (d e : Expr) → Reads d tokens [] → Reads e tokens [] → d ≡ e }
+{}
+
+/// At most one statement reads given tokens.
+#[tactic(auto, using(crate::proofs::Exact::one_statement))]
+pub fn one_statement()
+    ensures { (tokens : List Token) (d e : Stmt) → ReadsStmt false d tokens [] → ReadsStmt false e tokens [] → d ≡ e }
+{}
+
+/// At most one list of statements reads given tokens.
+#[tactic(auto, using(crate::proofs::Exact::one_body))]
+pub fn one_body()
+    ensures { (tokens : List Token) (d e : Stmts) → ReadsStmts false d tokens [] → ReadsStmts false e tokens [] → d ≡ e }
+{}
+
+/// The machine stops at the first token with which no read prefix goes on, and gives the tree that reads the tokens
+/// before it, or none where no tree does.
+#[tactic(auto, using(crate::proofs::Exact::exact))]
+pub fn machine_is_exact()
+    ensures { (y : Entry) (tokens : List Token) → IsAnswer y tokens (go tokens (start_of y)).tree (go tokens (start_of y)).rest }
+{}
+
+/// Among the tokens of a file the machine gives, at each place, the tree of the longest read front and where it ends;
+/// `Syntax` exactly where no tree reads this front, at the token behind it; and `TooDeep` exactly where there is such a
+/// tree with a node deeper than 100, at the first token of the first such node. So `Syntax` is told before `TooDeep`.
+#[tactic(auto, using(crate::proofs::Fronts::front_answer))]
+pub fn machine_answers_at_each_place()
+    ensures { (y : Entry) (tokens : List Token) (from : ℕ) → AreWhole tokens → from < length tokens → FrontAnswer y tokens from (parse_of y tokens from) }
+{}
