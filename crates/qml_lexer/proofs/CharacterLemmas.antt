@@ -16,6 +16,9 @@ same_number x k h = grind (arith, nat_tests)
 pub other_number : (x k : ℕ) → x ≢ k → (x == k) ≡ false
 other_number x k n = grind (arith, nat_tests)
 
+pub different : (x k : ℕ) → (x == k) ≡ false → x ≢ k
+different x k h = grind (arith, nat_tests)
+
 -- a character that passes a test isn't one that fails it
 pub apart : (p : ℕ → Bool) (k x : ℕ) → p k ≡ false → p x ≡ true → (x == k) ≡ false
 apart p k x f h = other_number x k (λ e. let same : p x ≡ p k = ap p e in cc)

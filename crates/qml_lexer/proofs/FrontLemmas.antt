@@ -1,5 +1,5 @@
 -- What the front of a text is cut into.
-use Rattle.std.proofs.Common.{◌≡◌, ◌≢◌, ℕ, ◌<◌, ◌≤◌, ◌⊎◌, inl, inr, Bool, true, false, not, ◌||◌, List, [], ◌∷◌, ◌++◌, length, Option, Some, None, Ok, Err, refl, sym, ap, ◌∙◌, subst, arith, if◌then◌else◌, append_assoc, length-append}
+use Rattle.std.proofs.Common.{◌≡◌, ◌≢◌, ℕ, ◌<◌, ◌≤◌, ◌⊎◌, inl, inr, Bool, true, false, ◌||◌, List, [], ◌∷◌, ◌++◌, length, Option, Some, None, Ok, Err, refl, sym, ap, ◌∙◌, subst, arith, if◌then◌else◌, append_assoc, length-append}
 use Rattle.std.specs.Prelude.{◌==◌, nat_lt}
 use Rattle.std.specs.List.{list_all}
 use Rattle.std.specs.Char.{is_digit}
@@ -28,7 +28,7 @@ use Rattle.qml_lexer.proofs.LiteralLemmas.{says_read, view_of, text_cut, text_st
 use Rattle.qml_lexer.proofs.NameLemmas.{name_read, word_read, word_identifier, name_cut}
 use Rattle.qml_lexer.proofs.NumberLemmas.{AtLeast, Cut, decimal_read, hexadecimal_read, version_read, number_cut, number_stuck}
 use Rattle.qml_lexer.proofs.PairLemmas.{ok_parts}
-use Rattle.qml_lexer.proofs.RunLemmas.{and_both, and_true, run_passes, behind_stops, behind_over, behind_stopped}
+use Rattle.qml_lexer.proofs.RunLemmas.{and_both, and_true, run_passes, behind_stops, behind_over, behind_stopped, negated}
 use Rattle.qml_lexer.proofs.TableLemmas.{begins_mark, mark_begins, mark_found, found_cut, word_length}
 use Rattle.qml_lexer.proofs.Utf8Lemmas.{run-behind}
 
@@ -75,7 +75,7 @@ front_case x xs = by (is_blank x) refl (x == 47) refl (is_quote x) refl (is_digi
 -- ---- a spelling is read
 
 -- the front where a token of a kind can stand before `more`: a token at least as long
-record FrontRead (xs more : List ℕ) (other : TokenKind) : Type 0 where
+pub record FrontRead (xs more : List ℕ) (other : TokenKind) : Type 0 where
   pub what : TokenKind
   pub rest : List ℕ
   pub reads : front xs ≡ Ok (item.Token what, rest)
@@ -131,10 +131,6 @@ no_or : (a b : Bool) → (a || b) ≡ false → (a ≡ false) × (b ≡ false)
 no_or true b h = absurd (never true refl h)
 no_or false b h = (refl, h)
 
-negated : (v : Bool) → not v ≡ true → v ≡ false
-negated true h = absurd (never false h refl)
-negated false h = refl
-
 mark_read : (m : Mark) (w more : List ℕ) → w ≡ mark_spelling m → begins_comment (w ++ more) ≡ false → FrontRead (w ++ more) more (kind.Mark m)
 unfolding mark
 mark_read m [] more e c = absurd (never (begins_mark (mark_spelling m)) (mark_begins m) (sym (ap begins_mark e)))
@@ -176,7 +172,7 @@ digits_front (x ∷ w) more other h rest a =
 abbrev ReadAt : List ℕ → TokenKind → List ℕ → Type 0
 ReadAt more other xs = FrontRead xs more other
 
-fit_read : (w more : List ℕ) (other : TokenKind) → Spells w other → MayStandBefore other more → begins_comment (w ++ more) ≡ false → FrontRead (w ++ more) more other
+pub fit_read : (w more : List ℕ) (other : TokenKind) → Spells w other → MayStandBefore other more → begins_comment (w ++ more) ≡ false → FrontRead (w ++ more) more other
 fit_read w more _ (a_name h n) b c = identifier_front w more (kind.Name (encode_utf16_all w)) h (name_read w more h n)
 fit_read w more _ (a_word k e) b c = identifier_front w more (kind.Word k) (ap is_identifier e ∙ word_identifier k) (word_read w more k e)
 fit_read w more _ (a_decimal d z l) b c = digits_front w more (kind.Number (value_of 10 w)) d more (decimal_read w more d z l b)

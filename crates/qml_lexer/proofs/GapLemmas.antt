@@ -4,10 +4,7 @@ use Rattle.std.specs.Prelude.{◌==◌}
 use Rattle.qml_lexer.specs.Front.{behind_comment}
 use Rattle.qml_lexer.specs.Gaps.{EndsAtFirstClose}
 use Rattle.qml_lexer.proofs.CharacterLemmas.{same_number}
-
-and_false : (v : Bool) → (v && false) ≡ false
-and_false true = refl
-and_false false = refl
+use Rattle.qml_lexer.proofs.RunLemmas.{and_false}
 
 -- a close is found
 closes : (star : Bool) (a b : List ℕ) → (r : List ℕ) × (behind_comment star (a ++ 42 ∷ 47 ∷ b) ≡ Some r)

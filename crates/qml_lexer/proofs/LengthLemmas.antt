@@ -8,6 +8,7 @@ use Rattle.std.proofs.lemmas.Bool.Decides.{nat_tests}
 use Rattle.qml_syntax.specs.declared.word.Word.{Word}
 use Rattle.qml_lexer.specs.declared.names.TheConstants.{WORDS, WORDS_OF_TWO, WORDS_OF_THREE, WORDS_OF_FOUR, WORDS_OF_FIVE, WORDS_OF_SIX, WORDS_OF_SEVEN, WORDS_OF_EIGHT, WORDS_OF_TEN}
 use Rattle.qml_lexer.specs.Names.{word_spelling, word_among}
+use Rattle.qml_lexer.proofs.CharacterLemmas.{different}
 use Rattle.qml_lexer.proofs.RunLemmas.{and_true}
 
 abbrev has_length : ℕ → Word → Bool
@@ -26,9 +27,6 @@ of_length : (n : ℕ) (ws : List Word) (bytes : List ℕ) → length bytes ≡ n
 of_length n [] bytes l = refl
 of_length n (w ∷ ws) bytes l = by (of_length n ws bytes l) (has_length n w) refl
   where
-    different : (a b : ℕ) → (a == b) ≡ false → a ≢ b
-    different a b h = grind (arith, nat_tests)
-
     by : word_among (filter (has_length n) ws) bytes ≡ word_among ws bytes → (v : Bool) → has_length n w ≡ v
         → word_among (filter (has_length n) (w ∷ ws)) bytes ≡ (if bytes_eq (word_spelling w) bytes then Some w else word_among ws bytes)
     by r true e = rw e (ap (λ z. if bytes_eq (word_spelling w) bytes then Some w else z) r)

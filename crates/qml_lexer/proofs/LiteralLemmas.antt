@@ -11,7 +11,7 @@ use Rattle.qml_lexer.specs.Texts.{ReadsText, two_digits, four_digits, with_rest,
 use Rattle.qml_lexer.specs.Spells.{IsEscape, simple, two_digits as two, four_digits as four, Says, nothing, plain, escaped}
 use Rattle.qml_lexer.specs.Causes.{NoEscape, HasWrongEscape, here, behind_plain, behind_escape as behind_good}
 use Rattle.qml_lexer.proofs.PairLemmas.{some_parts, ok_parts}
-use Rattle.qml_lexer.proofs.CharacterLemmas.{same_number}
+use Rattle.qml_lexer.proofs.CharacterLemmas.{different, same_number}
 use Rattle.qml_lexer.proofs.TextLemmas.{two_short, two_value, four_of, four_short, four_value, four_unit, at_backslash, at_other, behind_escape}
 
 -- ---- escapes
@@ -125,9 +125,6 @@ pub data View (q : ℕ) : List ℕ → ReadsText → Type 0 where
   v_wrong : (x : ℕ) (xs : List ℕ) → x ≡ 92 → NoEscape xs → View q (x ∷ xs) (Err cause.Escape)
   v_plain : (x : ℕ) (xs : List ℕ) (r : ReadsText) → x ≢ q → x ≢ 92 → is_line_end x ≡ false → View q xs r → View q (x ∷ xs) (with_units (encode_utf16 x) r)
   v_escaped : (x u : ℕ) (e xs rest : List ℕ) (r : ReadsText) → x ≡ 92 → IsEscape e u → xs ≡ e ++ rest → View q rest r → View q (x ∷ xs) (with_units (u ∷ []) r)
-
-different : (x k : ℕ) → (x == k) ≡ false → x ≢ k
-different x k h = grind (arith, nat_tests)
 
 pub view : (n q : ℕ) (xs : List ℕ) → q ≢ 92 → length xs ≤ n → View q xs (body q xs)
 view n q [] z l = v_end

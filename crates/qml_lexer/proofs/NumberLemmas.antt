@@ -14,7 +14,7 @@ use Rattle.qml_lexer.specs.Spells.{are_digits, value_of, has_leading_zero, Spell
 use Rattle.unicode_ident.proofs.Computing.{unicode_ident}
 use Rattle.qml_lexer.proofs.PairLemmas.{ok_parts}
 use Rattle.qml_lexer.proofs.CharacterLemmas.{same_number, other_number, apart, never, decimal_is_hex, digit_part}
-use Rattle.qml_lexer.proofs.RunLemmas.{and_true, run_passes, run_over, behind_over, behind_short, run_stopped, behind_stopped}
+use Rattle.qml_lexer.proofs.RunLemmas.{and_false, and_true, run_passes, run_over, behind_over, behind_short, run_stopped, behind_stopped}
 use Rattle.qml_lexer.proofs.Utf8Lemmas.{run-behind}
 
 -- what a reader of kinds gives where a token of a kind stands before `more`: a token at least as long
@@ -103,10 +103,6 @@ part_x = refl
 part_X : is_part 88 ≡ true
 unfolding unicode_ident
 part_X = refl
-
-and_false : (v : Bool) → (v && false) ≡ false
-and_false true = refl
-and_false false = refl
 
 dot_shorter : (xs f : List ℕ) → behind_dot xs ≡ Some f → length f < length xs
 dot_shorter [] f h = cc

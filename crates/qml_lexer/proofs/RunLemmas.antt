@@ -1,5 +1,5 @@
 -- Runs of characters of one class.
-use Rattle.std.proofs.Common.{◌≡◌, ℕ, ◌≤◌, Bool, true, false, ◌&&◌, List, [], ◌∷◌, ◌++◌, length, refl, ap, arith, if◌then◌else◌}
+use Rattle.std.proofs.Common.{◌≡◌, ℕ, ◌≤◌, Bool, true, false, not, ◌&&◌, List, [], ◌∷◌, ◌++◌, length, refl, ap, arith, if◌then◌else◌}
 use Rattle.std.specs.List.{list_all}
 use Rattle.qml_lexer.specs.Characters.{begins, run, behind}
 
@@ -9,6 +9,14 @@ and_true false b h = cc
 
 pub and_both : (a b : Bool) → a ≡ true → b ≡ true → (a && b) ≡ true
 and_both a b h g = rw h g
+
+pub and_false : (v : Bool) → (v && false) ≡ false
+and_false true = refl
+and_false false = refl
+
+pub negated : (v : Bool) → not v ≡ true → v ≡ false
+negated true h = cc
+negated false h = refl
 
 pub run_passes : (p : ℕ → Bool) (xs : List ℕ) → list_all p (run p xs) ≡ true
 run_passes p [] = refl

@@ -15,7 +15,7 @@ use Rattle.qml_lexer.specs.Characters.{is_blank, is_quote, is_start}
 use Rattle.qml_lexer.specs.Marks.{mark_spelling, behind_all, found_or, first_of}
 use Rattle.qml_lexer.specs.Names.{word_spelling, word_among}
 use Rattle.qml_lexer.proofs.PairLemmas.{some_parts}
-use Rattle.qml_lexer.proofs.RunLemmas.{and_true}
+use Rattle.qml_lexer.proofs.RunLemmas.{and_true, negated}
 use Rattle.qml_lexer.proofs.CharacterLemmas.{same_number}
 
 -- ---- marks
@@ -144,10 +144,6 @@ not_begun k (j ∷ ms) zero m i h =
     let first : not (is_front k j) ≡ true = (and_true (not (is_front k j)) (list_all (λ z. not (is_front k z)) ms) h).0 in
     let here : not (is_front k m) ≡ true = ap (λ z. not (is_front k z)) (sym same) ∙ first in
     negated (is_front k m) here
-  where
-    negated : (v : Bool) → not v ≡ true → v ≡ false
-    negated true e = cc
-    negated false e = refl
 not_begun k (j ∷ ms) (suc n) m i h = not_begun k ms n m i (and_true (not (is_front k j)) (list_all (λ z. not (is_front k z)) ms) h).1
 
 found_in : (ms : List Mark) (n : ℕ) (m : Mark) (xs more : List ℕ) → nth ms n ≡ Some m → in_order ms ≡ true → behind_all xs (mark_spelling m) ≡ Some more → Found ms m xs more

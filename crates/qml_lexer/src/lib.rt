@@ -3,7 +3,8 @@
 //! said by `specs/Spells.antt`, the spellings of each class of token, by `specs/Gaps.antt`, the blanks and comments
 //! between them, and by `specs/Lex.antt`, which makes a list of tokens of them: each token is the longest front that
 //! spells one, and has its place and whether a line begins before it. The laws in `laws` say that at most one list
-//! reads given bytes, and that no list reads bytes that are refused. Want of memory is the only free answer.
+//! reads given bytes, that no list reads bytes that are refused, and that they are refused at one place with one cause.
+//! Want of memory is the only free answer.
 #![tactic(auto)]
 
 mod characters;
@@ -20,5 +21,7 @@ mod tests;
 mod texts;
 
 pub use fault::{LexCause, LexFault};
-pub use laws::{none_reads_what_is_refused, one_list_reads};
+pub use laws::{
+    longest_token_is_taken, none_reads_what_is_refused, one_list_reads, refused_in_one_way,
+};
 pub use lexer::lex;
