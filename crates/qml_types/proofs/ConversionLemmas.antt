@@ -1,12 +1,12 @@
 -- Converting again.
-use Rattle.std.proofs.Common.{◌≡◌, ◌≢◌, ◌↔◌, IsTrue, refl, sym, subst, List as list, [], Ok, false}
-use Rattle.qml_value.specs.declared.value.Value.{Value, Bool, Text}
+use Rattle.std.proofs.Common.{◌≡◌, ◌≢◌, refl, sym, subst, List as list, [], Ok, false}
+use Rattle.qml_value.specs.declared.value.Value.{Value, Text}
 use Rattle.qml_value.specs.Kinds.{kind_of}
 use Rattle.qml_value.specs.Texts.{text_of}
 use Rattle.qml_types.specs.declared.kind.TypeRef.{TypeRef}
 use Rattle.qml_types.specs.declared.kind.PropKind.{PropKind}
 use Rattle.qml_types.specs.declared.kind.PropKind.TheVariants as kind
-use Rattle.qml_types.specs.Conversion.{IsConverted, Takes, Becomes, default_of}
+use Rattle.qml_types.specs.Conversion.{IsConverted, Takes, default_of}
 
 -- where a value stays as it is
 stays : (k : PropKind) (types : list TypeRef) (value as_kind : Value) → as_kind ≡ value → Takes k types (kind_of value) → Takes k types (kind_of as_kind)

@@ -1,5 +1,5 @@
 -- Which values a kind of property takes, and as what.
-use Rattle.std.specs.Prelude.{◌≡◌, ◌↔◌, ℤ, pos, Bool as 𝔹, true, false, IsTrue, List as list, [], Result, Ok, Err}
+use Rattle.std.specs.Prelude.{◌≡◌, ◌↔◌, pos, Bool as 𝔹, false, IsTrue, List as list, [], Result, Ok, Err}
 use Rattle.std.specs.List.{Contains}
 use Rattle.qml_value.specs.declared.value.Value.{Value, Undefined, Null, Bool, Num, Text, List}
 use Rattle.qml_value.specs.declared.value.Kind.{Kind}

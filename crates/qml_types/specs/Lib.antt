@@ -1,3 +1,4 @@
 pub mod Table
 pub mod Conversion
 pub mod Tests
+pub mod Cells

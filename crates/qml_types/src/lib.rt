@@ -11,6 +11,8 @@ mod laws;
 mod names;
 mod offers;
 mod places;
+#[cfg(test)]
+mod tests;
 
 pub use conversion::{ConvertFault, convert, default_of};
 pub use kind::{Access, PropKind, Start, TypeNo, TypeRef};
@@ -18,4 +20,4 @@ pub use laws::{
     converted_values_stay, each_module_offers_a_name_once, names_differ_in_a_type, places_count_up,
 };
 pub use names::lookup;
-pub use places::{Prop, property};
+pub use places::{Cell, Prop, cell_at, property};

@@ -1,4 +1,4 @@
-use Rattle.std.proofs.Common.{◌≡◌, ◌∙◌, ap, sym}
+use Rattle.std.proofs.Common.{◌∙◌, ap, sym}
 use Rattle.qml_types.specs.Table.{found}
 use Rattle.qml_types.specs.declared.kind.TypeNo.TheVariants as type
 use Rattle.qml_types.proofs.TableLemmas.{past-one, in-one}
