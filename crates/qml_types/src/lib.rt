@@ -18,6 +18,7 @@ pub use conversion::{ConvertFault, convert, default_of};
 pub use kind::{Access, PropKind, Start, TypeNo, TypeRef};
 pub use laws::{
     converted_values_stay, each_module_offers_a_name_once, names_differ_in_a_type, places_count_up,
+    properties_are_found_where_shown, types_are_found_where_offered,
 };
 pub use names::lookup;
 pub use places::{Cell, Prop, cell_at, property};
