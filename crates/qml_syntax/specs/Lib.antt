@@ -7,3 +7,4 @@ pub mod Onto
 pub mod Nodes
 pub mod Flat
 pub mod Depth
+pub mod Standing
