@@ -2,3 +2,5 @@ pub mod Frames
 pub mod Machine
 pub mod Answer
 pub mod Front
+pub mod Tape
+pub mod Moves
