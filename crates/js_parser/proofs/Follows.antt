@@ -1,47 +1,30 @@
 -- What the code keeps of a state follows the machine.
-use Rattle.std.proofs.Common.{◌≡◌, ℕ, Bool, true, false, not, ◌&&◌, ◌||◌, List, [], ◌∷◌, Option, Some, None, refl, sym, ap, ◌∙◌, inl, inr, ◌⊎◌}
-use Rattle.std.specs.Prelude.{◌==◌, nat_le, nat_lt, if◌then◌else◌, codes}
-use Rattle.std.specs.Str.{bytes_eq}
+use Rattle.std.proofs.Common.{◌≡◌, ℕ, Bool, true, false, not, ◌&&◌, List, [], ◌∷◌, Option, Some, None, refl, sym, ap, ◌∙◌, inl, inr}
+use Rattle.std.specs.Prelude.{if◌then◌else◌}
 use Rattle.qml_base.specs.declared.numbers.Place.{Place}
 use Rattle.qml_syntax.specs.declared.token.TokenKind.{TokenKind}
 use Rattle.qml_syntax.specs.declared.token.TokenKind.TheVariants as k
-use Rattle.qml_syntax.specs.declared.mark.Mark.{Mark}
 use Rattle.qml_syntax.specs.declared.mark.Mark.TheVariants as m
 use Rattle.qml_syntax.specs.declared.word.Word.TheVariants as w
 use Rattle.qml_syntax.specs.declared.token.Token.{Token}
-use Rattle.qml_syntax.specs.declared.operators.Operator.{Operator}
 use Rattle.qml_syntax.specs.declared.operators.Prefix.{Prefix}
 use Rattle.qml_syntax.specs.declared.operators.Prefix.TheVariants as g
-use Rattle.qml_syntax.specs.declared.operators.Postfix.{Postfix}
-use Rattle.qml_syntax.specs.declared.operators.Assignment.{Assignment}
-use Rattle.qml_syntax.specs.declared.operators.Assignment.TheVariants as u
-use Rattle.qml_syntax.specs.declared.literal.Literal.TheVariants as x
-use Rattle.qml_syntax.specs.declared.literal.Declaration.{Declaration}
-use Rattle.qml_syntax.specs.declared.literal.Declaration.TheVariants as v
-use Rattle.qml_syntax.specs.declared.node.Close.TheVariants as end
-use Rattle.qml_syntax.specs.declared.node.Node.{Node}
 use Rattle.qml_syntax.specs.declared.node.Node.TheVariants as node
-use Rattle.qml_syntax.specs.Ends.{bare, last_of}
-use Rattle.js_parser.specs.declared.open.Stands.{Stands}
-use Rattle.js_parser.specs.declared.open.Stands.TheVariants as stands
-use Rattle.js_parser.specs.declared.open.Frame as code
 use Rattle.js_parser.specs.declared.open.Frame.TheVariants as f
 use Rattle.js_parser.specs.declared.open.Reach.{Reach}
 use Rattle.js_parser.specs.declared.open.Reach.TheVariants as reach
 use Rattle.js_parser.specs.declared.open.Have.{Have}
-use Rattle.js_parser.specs.declared.open.Now.{Now}
 use Rattle.js_parser.specs.declared.open.Now.TheVariants as n
-use Rattle.qml_syntax.specs.Tree.{Units, Close, semi, auto, Expr, name, number, text, literal, paren, list, fields, bumped, no_exprs, no_fields, Step, member, element, call, binding, no_signs, no_links, Links, no_choices, no_targets, Stmt, empty, expr, block, declare, when, either, while, for, give, stop, again, no_stmts, last_var, Maybe, nothing, just, First, no_first, first_expr, first_declare}
-use Rattle.qml_syntax.specs.Levels.{level, operand, tightness, is_target, is_bump, is_open, is_place, if_qt, Reached, at_qt, at_binding, elsewhere, beyond}
-use Rattle.qml_syntax.specs.Nodes.{mark, of_expr, of_step, of_stmt, of_var, of_first, of_maybe, Parts, apply}
-use Rattle.js_parser.specs.Frames.{Frame, Field, Var, exprs_onto, fields_onto, stepped, reached, signed_onto, chain_onto, choose_onto, assign_onto, vars_onto, stmts_onto, Where, in_body, in_header, in_alone, in_one, in_list, in_paren, in_items, in_field, in_args, in_element, in_sign, in_chain, in_then, in_else, in_assign, in_expr, in_give, in_value, in_if, in_while, in_first, in_test, in_next, in_when, in_either, in_loop, in_for, in_block, in_function, Frames, Jump, breaks, continues, jump, State, need, have, dotted, at_key, begin, did, at_give, at_jump, at_name, named, at_first, at_test, at_next, expects}
-use Rattle.js_parser.specs.Machine.{Role, joins, updates, bumps, question, dot, calls, indexes, colon, closes, shuts, comma, semicolon, brace, other, role_of, is_brace, is_semi, is_else, is_mark, ends_line, ends_alone, Entry, takes, looping, Held, held, closed_at, Placed, placed, over, on_sign, without_args, ends_items, at_function, on_function, on_need, some_fields_back, on_key, ends_block, on_jump, on_begin, on_placed, on_else, on_did, begins_chain, with_operator, with_update, with_question, with_colon, with_paren, with_bracket, with_comma, with_semi, with_end, with_brace, on_role, on_have, on_dotted, on_alone, on_name, named_semi, named_end, on_named, on_first, on_test, on_next, step}
-use Rattle.js_parser.specs.Tape.{Tape, tape, tape_of, reach_of, is_binding, none_yet, exprs_part, steps_part, stmts_part, fields_part, vars_part, stands_of, frames_code, frames_parts, have_of}
-use Rattle.js_parser.specs.Moves.{Open, plain, of_step_to, of_bumped, member_reach, is_reach_binding, at_mark, flushed, admits, loops, Closed, closed, close_at, Over, over_at, is_over, move_sign, move_args, move_items, move_function, move_need, move_key, move_block, move_begin, move_placed, move_else, move_did, begin_chain, move_operator, move_update, move_question, move_colon, move_paren, move_bracket, move_comma, move_semi, move_end, move_brace, move_role, move_have, move_dotted, move_alone, move_name, declared, move_named_end, move_named, move_first, move_test, move_next, move_mark, move}
+use Rattle.qml_syntax.specs.Tree.{Expr, fields, no_exprs, no_fields, Step, call, binding, Links, Stmt, when, either, while, for, no_stmts}
+use Rattle.qml_syntax.specs.Levels.{level, tightness, is_bump, is_place, Reached, at_qt, at_binding, elsewhere, beyond}
+use Rattle.qml_syntax.specs.Nodes.{mark, of_expr, of_step, of_stmt, apply}
+use Rattle.js_parser.specs.Frames.{Frame, Field, fields_onto, reached, chain_onto, stmts_onto, in_list, in_items, in_args, in_element, in_sign, in_chain, in_expr, in_when, in_either, in_loop, in_for, in_block, in_function, Frames, Jump, breaks, continues, State, need, have, at_jump}
+use Rattle.js_parser.specs.Machine.{is_else, Entry, takes, looping, Placed, placed, over, on_sign, without_args, ends_items, at_function, on_function, on_need, some_fields_back, on_key, ends_block, on_jump, on_begin, on_placed, on_else, on_did}
+use Rattle.js_parser.specs.Tape.{Tape, tape, tape_of, reach_of, is_binding, steps_part, stmts_part, fields_part, frames_code, frames_parts}
+use Rattle.js_parser.specs.Moves.{plain, of_step_to, at_mark, admits, loops, Over, over_at, is_over, move_sign, move_args, move_items, move_function, move_need, move_key, move_block, move_begin, move_placed, move_else, move_did}
 use Rattle.js_parser.proofs.Tokens.{true_or_false}
-use Rattle.js_parser.proofs.Opened.{OpenChain}
-use Rattle.js_parser.proofs.Left.{Left, l_alone, l_one, l_list, l_paren, l_items, l_field, l_args, l_element, l_sign, l_chain, l_then, l_else, l_assign, l_expr, l_give, l_value, l_if, l_while, l_first, l_test, l_next, l_when, l_either, l_loop, l_for, l_block, l_function, LeftAt, w_body, w_header, StateReads, signed_tight, chain_tight, choose_tight, assign_tight}
-use Rattle.js_parser.proofs.Kept.{exprs_kept, exprs_below, stmts_kept, stmts_below, fields_kept, fields_below, vars_kept, vars_below, signs_kept, signs_below, links_kept, links_below, choices_kept, choices_below, targets_kept, targets_below, signed_no_target, chain_no_target, choose_no_target, assign_no_target, step_known, call_reach, element_reach, binding_reach, member_reaches, flush_known}
+use Rattle.js_parser.proofs.Left.{Left, l_alone, l_one, l_list, l_paren, l_items, l_field, l_args, l_element, l_sign, l_chain, l_then, l_else, l_assign, l_expr, l_give, l_value, l_if, l_while, l_first, l_test, l_next, l_when, l_either, l_loop, l_for, l_block, l_function, w_body, w_header, chain_tight}
+use Rattle.js_parser.proofs.Kept.{exprs_kept, exprs_below, stmts_kept, stmts_below, fields_kept, fields_below, step_known, call_reach, binding_reach}
 
 abbrev pub lifted : Option State → Option Tape
 lifted None = None
@@ -195,13 +178,13 @@ begin_follows fs p (k.Word w.Let) kn = refl
 begin_follows fs p (k.Word w.Const) kn = refl
 begin_follows fs p kind kn = need_follows (in_expr ∷ fs) p kind (tt, kn)
 
-abbrev over_of : Placed → Over
+abbrev pub over_of : Placed → Over
 over_of (placed d fs) = over_at (of_stmt d ∷ frames_parts fs) (frames_code fs)
 
 abbrev KnowsPlaced : Placed → Type 0
 KnowsPlaced (placed d fs) = Knows fs
 
-over_follows : (fs : Frames) (d : Stmt) → is_over (frames_code fs) (of_stmt d ∷ frames_parts fs) ≡ over_of (over fs d)
+pub over_follows : (fs : Frames) (d : Stmt) → is_over (frames_code fs) (of_stmt d ∷ frames_parts fs) ≡ over_of (over fs d)
 over_follows (in_when p c ∷ fs) d = over_follows fs (when p c d)
 over_follows (in_either p c r ∷ fs) d = over_follows fs (either p c r d)
 over_follows (in_loop p c ∷ fs) d = over_follows fs (while p c d)
@@ -237,5 +220,6 @@ did_follows d fs t kn =
     let P : Bool → Option Tape = λ v. if v then move_else (frames_code fs) (of_stmt d ∷ frames_parts fs) else move_placed (is_over (frames_code fs) (of_stmt d ∷ frames_parts fs)) t.place t.what in
     let Q : Bool → Option State = λ v. if v then on_else fs d else on_placed (over fs d) t.place t.what in
     elim (true_or_false (is_else t.what)) [
-      inl c ↦ ap P c ∙ else_follows fs d ∙ ap lifted (sym (ap Q c))
-    | inr c ↦ ap P c ∙ ap (λ (z : Over). move_placed z t.place t.what) (over_follows fs d) ∙ placed_follows (over fs d) t.place t.what (over_knows fs d kn) ∙ ap lifted (sym (ap Q c)) ]
+      | inl c ↦ ap P c ∙ else_follows fs d ∙ ap lifted (sym (ap Q c))
+      | inr c ↦ ap P c ∙ ap (λ (z : Over). move_placed z t.place t.what) (over_follows fs d) ∙ placed_follows (over fs d) t.place t.what (over_knows fs d kn) ∙ ap lifted (sym (ap Q c))
+    ]

@@ -1,21 +1,20 @@
 -- The parts that open frames keep are those that their nodes take.
-use Rattle.std.proofs.Common.{◌≡◌, ℕ, Bool, true, false, not, List, [], ◌∷◌, Option, Some, None, refl, sym, ap, ◌∙◌, eq-eqb}
-use Rattle.std.specs.Prelude.{if◌then◌else◌, ◌==◌, nat_lt, ◌||◌}
+use Rattle.std.proofs.Common.{◌≡◌, ℕ, Bool, true, false, List, [], ◌∷◌, refl, ap, ◌∙◌, eq-eqb}
+use Rattle.std.specs.Prelude.{if◌then◌else◌}
 use Rattle.std.specs.Str.{bytes_eq}
 use Rattle.std.specs.Prelude.{codes}
 use Rattle.qml_base.specs.declared.numbers.Place.{Place}
 use Rattle.qml_syntax.specs.declared.operators.Operator.{Operator}
 use Rattle.qml_syntax.specs.declared.operators.Prefix.{Prefix}
 use Rattle.qml_syntax.specs.declared.operators.Assignment.{Assignment}
-use Rattle.qml_syntax.specs.declared.node.Node.TheVariants as node
-use Rattle.qml_syntax.specs.Tree.{Units, Expr, Exprs, Step, member, element, call, binding, Steps, no_steps, a_step, Stmt, Stmts, Maybe, nothing, just, Signs, a_sign, no_signs, Links, a_link, no_links, Choices, a_choice, no_choices, Targets, a_target, no_targets}
-use Rattle.qml_syntax.specs.Levels.{level, tightness, is_target, is_bump, is_open, is_place, ends_in_place, Reached, at_qt, at_binding, elsewhere, start, beyond, if_binding}
-use Rattle.qml_syntax.specs.Nodes.{Item, mark, of_expr, of_step, of_stmt, of_key, of_var, Parts, exprs_in, below_exprs, stmts_in, below_stmts, fields_in, below_fields, vars_in, below_vars, steps_in, below_steps, signs_in, below_signs, links_in, below_links, choices_in, below_choices, targets_in, below_targets, signs_behind, below_signs_behind, links_behind, below_links_behind, apply}
+use Rattle.qml_syntax.specs.Tree.{Units, Expr, Exprs, Step, member, element, call, binding, Steps, no_steps, a_step, Stmt, Stmts, Maybe, nothing, just, Signs, a_sign, Links, a_link, Choices, a_choice, Targets, a_target}
+use Rattle.qml_syntax.specs.Levels.{tightness, is_target, is_open, is_place, ends_in_place, Reached, at_qt, at_binding, elsewhere, beyond, if_binding}
+use Rattle.qml_syntax.specs.Nodes.{mark, of_expr, Parts, exprs_in, below_exprs, stmts_in, below_stmts, fields_in, below_fields, vars_in, below_vars, steps_in, below_steps, choices_in, below_choices, targets_in, below_targets, signs_behind, below_signs_behind, links_behind, below_links_behind}
 use Rattle.js_parser.specs.declared.open.Have.{Have}
 use Rattle.js_parser.specs.declared.open.Reach.{Reach}
 use Rattle.js_parser.specs.declared.open.Reach.TheVariants as reach
 use Rattle.js_parser.specs.Frames.{Field, Sign, Link, Choice, Target, Var, stepped, steps_onto, reached, signed_onto, chain_onto, choose_onto, assign_onto}
-use Rattle.js_parser.specs.Tape.{none_yet, exprs_part, steps_part, stmts_part, fields_part, var_part, vars_part, signs_part, links_part, choices_part, targets_part, reach_of, have_of, some_steps}
+use Rattle.js_parser.specs.Tape.{none_yet, exprs_part, steps_part, stmts_part, fields_part, var_part, vars_part, signs_part, links_part, choices_part, targets_part, reach_of, have_of}
 use Rattle.js_parser.specs.Moves.{of_step_to, member_reach, flushed}
 use Rattle.js_parser.proofs.Collapse.{open_stepped, stepped_tight}
 

@@ -15,3 +15,4 @@ pub mod Fronts
 pub mod Kept
 pub mod Follows
 pub mod Moving
+pub mod KeptExact

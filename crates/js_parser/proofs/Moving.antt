@@ -1,50 +1,36 @@
 -- What the code keeps of a state follows the machine: behind an expression, and all states.
-use Rattle.std.proofs.Common.{◌≡◌, ℕ, Bool, true, false, not, ◌&&◌, ◌||◌, List, [], ◌∷◌, Option, Some, None, refl, sym, ap, ◌∙◌, inl, inr, ◌⊎◌}
-use Rattle.std.specs.Prelude.{◌==◌, nat_le, nat_lt, if◌then◌else◌, codes}
-use Rattle.std.specs.Str.{bytes_eq}
+use Rattle.std.proofs.Common.{◌≡◌, ℕ, Bool, true, false, not, ◌&&◌, ◌||◌, List, [], ◌∷◌, Option, Some, None, refl, sym, ap, ◌∙◌, inl, inr}
+use Rattle.std.specs.Prelude.{◌==◌, nat_le, nat_lt, if◌then◌else◌}
 use Rattle.qml_base.specs.declared.numbers.Place.{Place}
 use Rattle.qml_syntax.specs.declared.token.TokenKind.{TokenKind}
 use Rattle.qml_syntax.specs.declared.token.TokenKind.TheVariants as k
-use Rattle.qml_syntax.specs.declared.mark.Mark.{Mark}
 use Rattle.qml_syntax.specs.declared.mark.Mark.TheVariants as m
 use Rattle.qml_syntax.specs.declared.word.Word.TheVariants as w
 use Rattle.qml_syntax.specs.declared.token.Token.{Token}
 use Rattle.qml_syntax.specs.declared.operators.Operator.{Operator}
-use Rattle.qml_syntax.specs.declared.operators.Prefix.{Prefix}
-use Rattle.qml_syntax.specs.declared.operators.Prefix.TheVariants as g
-use Rattle.qml_syntax.specs.declared.operators.Postfix.{Postfix}
 use Rattle.qml_syntax.specs.declared.operators.Assignment.{Assignment}
 use Rattle.qml_syntax.specs.declared.operators.Assignment.TheVariants as u
-use Rattle.qml_syntax.specs.declared.literal.Literal.TheVariants as x
 use Rattle.qml_syntax.specs.declared.literal.Declaration.{Declaration}
-use Rattle.qml_syntax.specs.declared.literal.Declaration.TheVariants as v
 use Rattle.qml_syntax.specs.declared.node.Close.TheVariants as end
 use Rattle.qml_syntax.specs.declared.node.Node.{Node}
 use Rattle.qml_syntax.specs.declared.node.Node.TheVariants as node
 use Rattle.qml_syntax.specs.Ends.{bare, last_of}
-use Rattle.js_parser.specs.declared.open.Stands.{Stands}
-use Rattle.js_parser.specs.declared.open.Stands.TheVariants as stands
-use Rattle.js_parser.specs.declared.open.Frame as code
 use Rattle.js_parser.specs.declared.open.Frame.TheVariants as f
-use Rattle.js_parser.specs.declared.open.Reach.{Reach}
 use Rattle.js_parser.specs.declared.open.Reach.TheVariants as reach
-use Rattle.js_parser.specs.declared.open.Have.{Have}
-use Rattle.js_parser.specs.declared.open.Now.{Now}
 use Rattle.js_parser.specs.declared.open.Now.TheVariants as n
-use Rattle.qml_syntax.specs.Tree.{Units, Close, semi, auto, Expr, name, number, text, literal, paren, list, fields, bumped, no_exprs, no_fields, Step, member, element, call, binding, no_signs, no_links, Links, no_choices, no_targets, Stmt, empty, expr, block, declare, when, either, while, for, give, stop, again, no_stmts, last_var, Maybe, nothing, just, First, no_first, first_expr, first_declare}
-use Rattle.qml_syntax.specs.Levels.{level, operand, tightness, is_target, is_bump, is_open, is_place, if_qt, Reached, at_qt, at_binding, elsewhere, beyond}
-use Rattle.qml_syntax.specs.Nodes.{mark, of_expr, of_step, of_stmt, of_var, of_first, of_maybe, Parts, apply}
-use Rattle.js_parser.specs.Frames.{Frame, Field, Var, exprs_onto, fields_onto, stepped, reached, signed_onto, chain_onto, choose_onto, assign_onto, vars_onto, stmts_onto, Where, in_body, in_header, in_alone, in_one, in_list, in_paren, in_items, in_field, in_args, in_element, in_sign, in_chain, in_then, in_else, in_assign, in_expr, in_give, in_value, in_if, in_while, in_first, in_test, in_next, in_when, in_either, in_loop, in_for, in_block, in_function, Frames, Jump, breaks, continues, jump, State, need, have, dotted, at_key, begin, did, at_give, at_jump, at_name, named, at_first, at_test, at_next, expects}
-use Rattle.js_parser.specs.Machine.{Role, joins, updates, bumps, question, dot, calls, indexes, colon, closes, shuts, comma, semicolon, brace, other, role_of, is_brace, is_semi, is_else, is_mark, ends_line, ends_alone, Entry, takes, looping, Held, held, closed_at, Placed, placed, over, on_sign, without_args, ends_items, at_function, on_function, on_need, some_fields_back, on_key, ends_block, on_jump, on_begin, on_placed, on_else, on_did, begins_chain, with_operator, with_update, with_question, with_colon, with_paren, with_bracket, with_comma, with_semi, with_end, with_brace, on_role, on_have, on_dotted, on_alone, on_name, named_semi, named_end, on_named, on_first, on_test, on_next, step}
-use Rattle.js_parser.specs.Tape.{Tape, tape, tape_of, reach_of, is_binding, none_yet, exprs_part, steps_part, stmts_part, fields_part, vars_part, stands_of, frames_code, frames_parts, have_of}
-use Rattle.js_parser.specs.Moves.{Open, plain, of_step_to, of_bumped, member_reach, is_reach_binding, at_mark, flushed, admits, loops, Closed, closed, close_at, Over, over_at, is_over, move_sign, move_args, move_items, move_function, move_need, move_key, move_block, move_begin, move_placed, move_else, move_did, begin_chain, move_operator, move_update, move_question, move_colon, move_paren, move_bracket, move_comma, move_semi, move_end, move_brace, move_role, move_have, move_dotted, move_alone, move_name, declared, move_named_end, move_named, move_first, move_test, move_next, move_mark, move}
+use Rattle.qml_syntax.specs.Tree.{Units, Close, semi, auto, Expr, bumped, no_exprs, Step, member, element, call, no_signs, no_links, no_choices, no_targets, Stmt, expr, declare, give, stop, again, last_var, Maybe, nothing, just, First}
+use Rattle.qml_syntax.specs.Levels.{level, operand, tightness, is_target, is_bump, is_open, Reached, at_qt, at_binding, elsewhere}
+use Rattle.qml_syntax.specs.Nodes.{mark, of_expr, of_stmt, of_var, of_first, of_maybe, Parts, apply}
+use Rattle.js_parser.specs.Frames.{Var, exprs_onto, stepped, reached, signed_onto, chain_onto, choose_onto, assign_onto, vars_onto, Where, in_body, in_header, in_items, in_field, in_args, in_element, in_sign, in_chain, in_then, in_else, in_assign, in_expr, in_give, in_value, in_first, in_test, in_next, Frames, breaks, continues, State, need, have, dotted, at_key, begin, did, at_give, at_jump, at_name, named, at_first, at_test, at_next, expects}
+use Rattle.js_parser.specs.Machine.{Role, joins, updates, bumps, question, dot, calls, indexes, colon, closes, shuts, comma, semicolon, brace, other, role_of, is_brace, is_semi, is_mark, ends_line, ends_alone, Entry, takes, Held, held, closed_at, on_need, on_did, begins_chain, with_operator, with_update, with_question, with_colon, with_paren, with_bracket, with_comma, with_semi, with_end, with_brace, on_role, on_have, on_dotted, on_alone, on_name, named_semi, named_end, on_named, on_first, on_test, on_next, step}
+use Rattle.js_parser.specs.Tape.{Tape, tape, tape_of, reach_of, is_binding, none_yet, steps_part, vars_part, stands_of, frames_code, frames_parts, have_of}
+use Rattle.js_parser.specs.Moves.{Open, of_bumped, member_reach, is_reach_binding, flushed, admits, Closed, closed, close_at, move_did, begin_chain, move_operator, move_update, move_question, move_colon, move_paren, move_bracket, move_comma, move_semi, move_end, move_brace, move_role, move_have, move_dotted, move_alone, move_name, declared, move_named_end, move_named, move_first, move_test, move_next, move}
 use Rattle.js_parser.proofs.Tokens.{true_or_false}
-use Rattle.js_parser.proofs.Opened.{OpenChain}
-use Rattle.js_parser.proofs.Left.{Left, l_alone, l_one, l_list, l_paren, l_items, l_field, l_args, l_element, l_sign, l_chain, l_then, l_else, l_assign, l_expr, l_give, l_value, l_if, l_while, l_first, l_test, l_next, l_when, l_either, l_loop, l_for, l_block, l_function, LeftAt, w_body, w_header, StateReads, signed_tight, chain_tight, choose_tight, assign_tight}
-use Rattle.js_parser.proofs.Kept.{exprs_kept, exprs_below, stmts_kept, stmts_below, fields_kept, fields_below, vars_kept, vars_below, signs_kept, signs_below, links_kept, links_below, choices_kept, choices_below, targets_kept, targets_below, signed_no_target, chain_no_target, choose_no_target, assign_no_target, step_known, call_reach, element_reach, binding_reach, member_reaches, flush_known}
-use Rattle.js_parser.proofs.Follows.{lifted, KnowsFrame, Knows, left_knows, need_follows, key_follows, begin_follows, did_follows, step_follows, admits_takes, lift_if}
+use Rattle.js_parser.proofs.Left.{LeftAt, w_body, w_header, StateReads, signed_tight, choose_tight, assign_tight}
+use Rattle.js_parser.proofs.Kept.{exprs_kept, exprs_below, fields_kept, fields_below, vars_kept, vars_below, signs_kept, signs_below, links_kept, links_below, choices_kept, choices_below, targets_kept, targets_below, signed_no_target, chain_no_target, choose_no_target, assign_no_target, call_reach, element_reach, member_reaches, flush_known}
+use Rattle.js_parser.proofs.Follows.{lifted, Knows, left_knows, need_follows, key_follows, begin_follows, did_follows, step_follows, admits_takes, lift_if}
 
-abbrev closed_of : Held → Closed
+abbrev pub closed_of : Held → Closed
 closed_of (held e fs) = closed (of_expr e ∷ frames_parts fs) (frames_code fs) (tightness e) (is_target e)
 
 abbrev KnowsHeld : Held → Type 0
@@ -64,8 +50,9 @@ close_follows (in_sign back h p ∷ fs) i e kn =
     let P : Bool → Closed = λ v. if v then close_at i (frames_code fs) (apply (node.Signed (none_yet back) h p) (of_expr e ∷ frames_parts here)) 13 false else closed_of (held e here) in
     let Q : Bool → Held = λ v. if v then closed_at fs i whole else held e here in
     elim (true_or_false (not (is_bump h) || is_target e)) [
-      inl c ↦ ap P c ∙ close_eq i (frames_code fs) _ _ 13 (tightness whole) false (is_target whole) parts (sym (signed_tight back h p no_signs e)) (sym (signed_no_target back h p no_signs e)) ∙ close_follows fs i whole kn.1 ∙ ap closed_of (sym (ap Q c))
-    | inr c ↦ ap P c ∙ ap closed_of (sym (ap Q c)) ]
+      | inl c ↦ ap P c ∙ close_eq i (frames_code fs) _ _ 13 (tightness whole) false (is_target whole) parts (sym (signed_tight back h p no_signs e)) (sym (signed_no_target back h p no_signs e)) ∙ close_follows fs i whole kn.1 ∙ ap closed_of (sym (ap Q c))
+      | inr c ↦ ap P c ∙ ap closed_of (sym (ap Q c))
+    ]
 close_follows (in_chain a back op p ∷ fs) i e kn =
     let whole = chain_onto a back op p e no_links in
     let s = frames_parts fs in
@@ -74,8 +61,9 @@ close_follows (in_chain a back op p ∷ fs) i e kn =
     let P : Bool → Closed = λ v. if v then close_at i (frames_code fs) (apply (node.Chain (none_yet back) op p) (of_expr e ∷ frames_parts here)) (level op) false else closed_of (held e here) in
     let Q : Bool → Held = λ v. if v then closed_at fs i whole else held e here in
     elim (true_or_false (nat_lt i (level op))) [
-      inl c ↦ ap P c ∙ close_eq i (frames_code fs) _ _ (level op) (tightness whole) false (is_target whole) parts (sym (kn.0 e no_links)) (sym (chain_no_target a back op p e no_links)) ∙ close_follows fs i whole kn.1 ∙ ap closed_of (sym (ap Q c))
-    | inr c ↦ ap P c ∙ ap closed_of (sym (ap Q c)) ]
+      | inl c ↦ ap P c ∙ close_eq i (frames_code fs) _ _ (level op) (tightness whole) false (is_target whole) parts (sym (kn.0 e no_links)) (sym (chain_no_target a back op p e no_links)) ∙ close_follows fs i whole kn.1 ∙ ap closed_of (sym (ap Q c))
+      | inr c ↦ ap P c ∙ ap closed_of (sym (ap Q c))
+    ]
 close_follows (in_else back c d ∷ fs) i e kn =
     let whole = choose_onto back c d no_choices e in
     let s = frames_parts fs in
@@ -84,8 +72,9 @@ close_follows (in_else back c d ∷ fs) i e kn =
     let P : Bool → Closed = λ v. if v then close_at i (frames_code fs) (apply node.Choose (of_expr e ∷ frames_parts here)) 1 false else closed_of (held e here) in
     let Q : Bool → Held = λ v. if v then closed_at fs i whole else held e here in
     elim (true_or_false (i == 0)) [
-      inl z ↦ ap P z ∙ close_eq i (frames_code fs) _ _ 1 (tightness whole) false (is_target whole) parts (sym (choose_tight back c d no_choices e)) (sym (choose_no_target back c d no_choices e)) ∙ close_follows fs i whole kn.1 ∙ ap closed_of (sym (ap Q z))
-    | inr z ↦ ap P z ∙ ap closed_of (sym (ap Q z)) ]
+      | inl z ↦ ap P z ∙ close_eq i (frames_code fs) _ _ 1 (tightness whole) false (is_target whole) parts (sym (choose_tight back c d no_choices e)) (sym (choose_no_target back c d no_choices e)) ∙ close_follows fs i whole kn.1 ∙ ap closed_of (sym (ap Q z))
+      | inr z ↦ ap P z ∙ ap closed_of (sym (ap Q z))
+    ]
 close_follows (in_assign back l h p ∷ fs) i e kn =
     let whole = assign_onto back l h p no_targets e in
     let s = frames_parts fs in
@@ -94,8 +83,9 @@ close_follows (in_assign back l h p ∷ fs) i e kn =
     let P : Bool → Closed = λ v. if v then close_at i (frames_code fs) (apply node.Assign (of_expr e ∷ frames_parts here)) 0 false else closed_of (held e here) in
     let Q : Bool → Held = λ v. if v then closed_at fs i whole else held e here in
     elim (true_or_false (i == 0)) [
-      inl z ↦ ap P z ∙ close_eq i (frames_code fs) _ _ 0 (tightness whole) false (is_target whole) parts (sym (assign_tight back l h p no_targets e)) (sym (assign_no_target back l h p no_targets e)) ∙ close_follows fs i whole kn.1 ∙ ap closed_of (sym (ap Q z))
-    | inr z ↦ ap P z ∙ ap closed_of (sym (ap Q z)) ]
+      | inl z ↦ ap P z ∙ close_eq i (frames_code fs) _ _ 0 (tightness whole) false (is_target whole) parts (sym (assign_tight back l h p no_targets e)) (sym (assign_no_target back l h p no_targets e)) ∙ close_follows fs i whole kn.1 ∙ ap closed_of (sym (ap Q z))
+      | inr z ↦ ap P z ∙ ap closed_of (sym (ap Q z))
+    ]
 close_follows [] i e kn = refl
 close_follows (_ ∷ fs) i e kn = refl
 
@@ -119,8 +109,9 @@ operator_follows op p (held e (in_chain a back h q ∷ fs)) =
     let P : Bool → Option Tape = λ v. if v then Some (tape_of more) else begin_chain op p (closed_of (held e here)) in
     let Q : Bool → Option State = λ v. if v then Some more else begins_chain op p e here in
     elim (true_or_false (level h == level op)) [
-      inl c ↦ ap P c ∙ ap lifted (sym (ap Q c))
-    | inr c ↦ ap P c ∙ chain_begins op p e here ∙ ap lifted (sym (ap Q c)) ]
+      | inl c ↦ ap P c ∙ ap lifted (sym (ap Q c))
+      | inr c ↦ ap P c ∙ chain_begins op p e here ∙ ap lifted (sym (ap Q c))
+    ]
 operator_follows op p (held e []) = chain_begins op p e []
 operator_follows op p (held e (x ∷ fs)) = chain_begins op p e (x ∷ fs)
 
@@ -209,8 +200,9 @@ have_follows e ss fs t kn =
     let P : Bool → Option Tape = λ v. if v then move_end (close_at 0 (frames_code fs) (flushed (have_of e ss) s) (tightness whole) (is_target whole)) t else move_role (have_of e ss) (frames_code fs) s t (role_of t.what) in
     let Q : Bool → Option State = λ v. if v then with_end (closed_at fs 0 whole) t else on_role e ss fs t (role_of t.what) in
     elim (true_or_false (ends_line (last_of (is_open whole)) t)) [
-      inl c ↦ ap P c ∙ closes_follows e ss fs 0 (λ x. move_end x t) _ kn (end_follows (closed_at fs 0 whole) t (closed_knows fs 0 whole kn)) ∙ ap lifted (sym (ap Q c))
-    | inr c ↦ ap P c ∙ role_follows e ss fs t (role_of t.what) kn ∙ ap lifted (sym (ap Q c)) ]
+      | inl c ↦ ap P c ∙ closes_follows e ss fs 0 (λ x. move_end x t) _ kn (end_follows (closed_at fs 0 whole) t (closed_knows fs 0 whole kn)) ∙ ap lifted (sym (ap Q c))
+      | inr c ↦ ap P c ∙ role_follows e ss fs t (role_of t.what) kn ∙ ap lifted (sym (ap Q c))
+    ]
 
 -- ---- the other states
 
@@ -227,10 +219,12 @@ alone_follows make by_end by_semi fs t so so' kn a b h =
     let R : Bool → Option Tape = λ v. if v then Some (tape (apply by_semi (frames_parts fs)) (frames_code fs) n.Did) else so in
     let R' : Bool → Option State = λ v. if v then Some (did (make semi) fs) else so' in
     elim (true_or_false (ends_alone t)) [
-      inl c ↦ ap P c ∙ ap (λ (z : Parts). move_did (frames_code fs) z t) a ∙ did_follows (make auto) fs t kn ∙ ap lifted (sym (ap Q c))
-    | inr c ↦ ap P c ∙ (elim (true_or_false (is_semi t.what)) as (λ v. S ≡ lifted S') [
-        inl d ↦ ap R d ∙ ap (λ (z : Parts). Some (tape z (frames_code fs) n.Did)) b ∙ ap lifted (sym (ap R' d))
-      | inr d ↦ ap R d ∙ h ∙ ap lifted (sym (ap R' d)) ]) ∙ ap lifted (sym (ap Q c)) ]
+      | inl c ↦ ap P c ∙ ap (λ (z : Parts). move_did (frames_code fs) z t) a ∙ did_follows (make auto) fs t kn ∙ ap lifted (sym (ap Q c))
+      | inr c ↦ ap P c ∙ (elim (true_or_false (is_semi t.what)) as (λ v. S ≡ lifted S') [
+        | inl d ↦ ap R d ∙ ap (λ (z : Parts). Some (tape z (frames_code fs) n.Did)) b ∙ ap lifted (sym (ap R' d))
+        | inr d ↦ ap R d ∙ h ∙ ap lifted (sym (ap R' d))
+      ]) ∙ ap lifted (sym (ap Q c))
+    ]
 
 name_follows : (h : Where) (p : Place) (q : Declaration) (vs : List Var) (fs : Frames) (r : Place) (kind : TokenKind) → move_name (stands_of h) p q (frames_code fs) (vars_part vs (mark ∷ frames_parts fs)) r kind ≡ lifted (on_name h p q vs fs r kind)
 name_follows h p q vs fs r (k.Name x) = refl
@@ -247,8 +241,9 @@ named_ends in_body p q vs i j fs t kn =
     let P : Bool → Option Tape = λ v. if v then move_did (frames_code fs) (apply (node.Declare p q end.Auto) (of_var i j ∷ vars_part vs (mark ∷ frames_parts fs))) t else None in
     let Q : Bool → Option State = λ v. if v then on_did d fs t else None in
     elim (true_or_false (is_brace t.what || ends_line bare t)) [
-      inl c ↦ ap P c ∙ one ∙ ap lifted (sym (ap Q c))
-    | inr c ↦ ap P c ∙ ap lifted (sym (ap Q c)) ]
+      | inl c ↦ ap P c ∙ one ∙ ap lifted (sym (ap Q c))
+      | inr c ↦ ap P c ∙ ap lifted (sym (ap Q c))
+    ]
 named_ends (in_header h) p q vs i j fs t kn = refl
 
 named_follows : (h : Where) (p : Place) (q : Declaration) (vs : List Var) (i : Units) (j : Place) (fs : Frames) (t : Token) (r : Role) → Knows fs → move_named (stands_of h) p q (frames_code fs) (of_var i j ∷ vars_part vs (mark ∷ frames_parts fs)) t r ≡ lifted (on_named h p q vs i j fs t r)

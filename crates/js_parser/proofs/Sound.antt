@@ -140,9 +140,12 @@ else_reads y _ d s a rest t next q l x h = cc
 block_reads : (y : Entry) (fs : Frames) (s rest : List Token) (t : Token) (next : State) → t.what ≡ k.Mark m.RightBrace → Left y fs s (t ∷ rest) → ends_block fs ≡ Some next → StateReads y next s rest
 block_reads y (in_block p back ∷ fs) s rest t next q (l_block {a = a} l g one o) h = moved y s rest (some_is h) (a, l, g, s_block one (stmts_closed o ss_none) (seen q))
 block_reads y (in_function e ss p back ∷ fs) s rest t next q (l_function {a = a} {b = c} l tk rb tight at q1 q2 q3 q4 q5 o) h =
-    moved y s rest (some_is h) (tt, λ u more e1 w1.
-    let P : Reached → Type 0 = λ z. ReadsStep z (binding p (stmts_onto back no_stmts)) c more in
-    stepped_reads y e (binding p (stmts_onto back no_stmts)) ss fs s a c more l tk rb tight (subst P (sym at) (p_binding q1 q2 q3 q4 q5 (stmts_closed o ss_none) (seen q) (see_at u rest more e1 w1))))
+    moved y s rest (some_is h) (
+      tt,
+      λ u more e1 w1.
+          let P : Reached → Type 0 = λ z. ReadsStep z (binding p (stmts_onto back no_stmts)) c more in
+          stepped_reads y e (binding p (stmts_onto back no_stmts)) ss fs s a c more l tk rb tight (subst P (sym at) (p_binding q1 q2 q3 q4 q5 (stmts_closed o ss_none) (seen q) (see_at u rest more e1 w1))),
+    )
 block_reads y _ s rest t next q l h = cc
 
 jump_reads : (y : Entry) (j : Jump) (fs : Frames) (s rest : List Token) (t : Token) (next : State) → t.what ≡ jump_kind j → Left y fs s (t ∷ rest) → doing fs ≡ true → on_jump j t.place fs ≡ Some next → StateReads y next s rest

@@ -4,3 +4,4 @@ pub mod Answer
 pub mod Front
 pub mod Tape
 pub mod Moves
+pub mod Kept

@@ -1,5 +1,5 @@
 -- What each token does to a state as it is kept.
-use Rattle.std.specs.Prelude.{◌≡◌, ℕ, Bool, true, false, not, ◌&&◌, ◌||◌, ◌==◌, nat_le, nat_lt, List, [], ◌∷◌, Option, Some, None, if◌then◌else◌, codes}
+use Rattle.std.specs.Prelude.{ℕ, Bool, true, false, not, ◌&&◌, ◌||◌, ◌==◌, nat_le, nat_lt, List, ◌∷◌, Option, Some, None, if◌then◌else◌, codes}
 use Rattle.std.specs.Str.{bytes_eq}
 use Rattle.qml_base.specs.declared.numbers.Place.{Place}
 use Rattle.qml_syntax.specs.declared.token.TokenKind.{TokenKind}
@@ -11,7 +11,6 @@ use Rattle.qml_syntax.specs.declared.token.Token.{Token}
 use Rattle.qml_syntax.specs.declared.operators.Operator.{Operator}
 use Rattle.qml_syntax.specs.declared.operators.Prefix.{Prefix}
 use Rattle.qml_syntax.specs.declared.operators.Prefix.TheVariants as g
-use Rattle.qml_syntax.specs.declared.operators.Postfix.{Postfix}
 use Rattle.qml_syntax.specs.declared.operators.Assignment.{Assignment}
 use Rattle.qml_syntax.specs.declared.operators.Assignment.TheVariants as u
 use Rattle.qml_syntax.specs.declared.literal.Literal.TheVariants as x
@@ -31,7 +30,6 @@ use Rattle.js_parser.specs.declared.open.Frame.TheVariants as f
 use Rattle.js_parser.specs.declared.open.Reach.{Reach}
 use Rattle.js_parser.specs.declared.open.Reach.TheVariants as reach
 use Rattle.js_parser.specs.declared.open.Have.{Have}
-use Rattle.js_parser.specs.declared.open.Now.{Now}
 use Rattle.js_parser.specs.declared.open.Now.TheVariants as n
 use Rattle.js_parser.specs.Machine.{Role, joins, updates, bumps, question, dot, calls, indexes, colon, closes, shuts, comma, semicolon, brace, other, role_of, is_brace, is_semi, is_else, is_mark, ends_line, ends_alone}
 use Rattle.js_parser.specs.Tape.{Tape, tape, reach_of}

@@ -1,10 +1,10 @@
 -- The machine's states as the code keeps them: nodes that stand for their parts, frames without them, and what is known.
-use Rattle.std.specs.Prelude.{◌≡◌, ℕ, Bool, true, false, ◌==◌, List, [], ◌∷◌, ◌++◌, Option, Some, None}
+use Rattle.std.specs.Prelude.{Bool, true, false, ◌==◌, List, [], ◌∷◌}
 use Rattle.qml_base.specs.declared.numbers.Place.{Place}
 use Rattle.qml_syntax.specs.declared.mark.Mark.TheVariants as m
-use Rattle.qml_syntax.specs.Tree.{Units, Expr, Step, Stmt, Maybe, nothing, just, First}
+use Rattle.qml_syntax.specs.Tree.{Units, Expr, Step, Stmt, Maybe, nothing, just}
 use Rattle.qml_syntax.specs.Levels.{tightness, is_target, is_open, Reached, at_qt, at_binding, elsewhere}
-use Rattle.qml_syntax.specs.Nodes.{Item, mark, of_expr, of_step, of_stmt, of_key, of_sign, of_link, of_choice, of_target, of_var, of_first, of_maybe, Parts}
+use Rattle.qml_syntax.specs.Nodes.{mark, of_expr, of_step, of_stmt, of_key, of_sign, of_link, of_choice, of_target, of_var, of_first, of_maybe, Parts}
 use Rattle.js_parser.specs.declared.open.Stands.{Stands}
 use Rattle.js_parser.specs.declared.open.Stands.TheVariants as stands
 use Rattle.js_parser.specs.declared.open.Frame as code
@@ -14,7 +14,7 @@ use Rattle.js_parser.specs.declared.open.Reach.TheVariants as reach
 use Rattle.js_parser.specs.declared.open.Have.{Have}
 use Rattle.js_parser.specs.declared.open.Now.{Now}
 use Rattle.js_parser.specs.declared.open.Now.TheVariants as n
-use Rattle.js_parser.specs.Frames.{Field, Sign, Link, Choice, Target, Var, stepped, reached, Where, in_body, in_header, Frame, in_alone, in_one, in_list, in_paren, in_items, in_field, in_args, in_element, in_sign, in_chain, in_then, in_else, in_assign, in_expr, in_give, in_value, in_if, in_while, in_first, in_test, in_next, in_when, in_either, in_loop, in_for, in_block, in_function, Frames, Jump, breaks, continues, State, need, have, dotted, at_key, begin, did, at_give, at_jump, at_name, named, at_first, at_test, at_next, expects}
+use Rattle.js_parser.specs.Frames.{Field, Sign, Link, Choice, Target, Var, stepped, reached, Where, in_body, in_header, Frame, in_alone, in_one, in_list, in_paren, in_items, in_field, in_args, in_element, in_sign, in_chain, in_then, in_else, in_assign, in_expr, in_give, in_value, in_if, in_while, in_first, in_test, in_next, in_when, in_either, in_loop, in_for, in_block, in_function, Frames, breaks, continues, State, need, have, dotted, at_key, begin, did, at_give, at_jump, at_name, named, at_first, at_test, at_next, expects}
 
 abbrev pub none_yet : {A : Type 0} → List A → Bool
 none_yet [] = true
