@@ -236,4 +236,4 @@ ended_by y (named h p q vs n j fs) s r = named_ended y h p q vs n j fs s r
 ended_by y (at_first p fs) s r = test_ended y p no_first fs s (step_reads y (at_first p fs) s (token (k.Mark m.Semicolon) ∷ for_end fs) (token (k.Mark m.Semicolon)) (at_test p no_first fs) r refl)
 ended_by y (at_test p i fs) s r = test_ended y p i fs s r
 ended_by y (at_next p i e fs) s r = next_ended y p i e fs s r
-ended_by y (expects x next) s r = ended_by y next s (r (token (k.Mark x)) (ending next) refl refl)
+ended_by y (expects x next) s r = ended_by y next s (r.1 (token (k.Mark x)) (ending next) refl refl)

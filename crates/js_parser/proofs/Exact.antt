@@ -72,7 +72,7 @@ pub record Ran (y : Entry) (front : List Token) (x : State) : Type 0 where
   pub reads : (rest : List Token) → StateReads y x (front ++ rest) rest
   pub goes : (rest : List Token) → go (front ++ rest) (start_of y) ≡ go rest x
 
-moves : (y : Entry) (front : List Token) (x : State) (t : Token) (next : State) → Ran y front x → step x t ≡ Some next → Ran y (front ++ t ∷ []) next
+pub moves : (y : Entry) (front : List Token) (x : State) (t : Token) (next : State) → Ran y front x → step x t ≡ Some next → Ran y (front ++ t ∷ []) next
 moves y front x t next ran h = record {
   reads = λ rest. rw append_assoc (step_reads y x (front ++ t ∷ rest) rest t next (ran.reads (t ∷ rest)) h);
   goes = λ rest. rw append_assoc (ran.goes (t ∷ rest) ∙ rw h refl);
@@ -110,7 +110,7 @@ pub answers : (y : Entry) (rest front : List Token) (x : State) → Ran y front 
 answers y [] front x ran = answered y front x [] ran (λ t more q. cc)
 answers y (t ∷ rest) front x ran = advanced y front x t rest (step x t) refl ran (λ next r. answers y rest (front ++ t ∷ []) next r)
 
-begun : (y : Entry) → Ran y [] (start_of y)
+pub begun : (y : Entry) → Ran y [] (start_of y)
 begun an_expression = record { reads = λ rest. (l_alone refl, refl); goes = λ rest. refl }
 begun a_statement = record { reads = λ rest. (l_one refl, refl); goes = λ rest. refl }
 begun a_body = record { reads = λ rest. (l_list refl os_none, refl); goes = λ rest. refl }

@@ -17,6 +17,7 @@ use Rattle.qml_syntax.specs.Tree.{Units, Expr, Step, Stmt, Maybe, First, no_sign
 use Rattle.qml_syntax.specs.Levels.{level, operand, tightness, is_target, is_bump, is_open, at_binding}
 use Rattle.qml_syntax.specs.Ends.{One, Sees, OnLine, Lacks}
 use Rattle.qml_syntax.specs.Reads.{Reads, ReadsStmt, ReadsMaybe, ReadsFirst}
+use Rattle.js_parser.specs.Tape.{Shaped}
 use Rattle.js_parser.specs.Frames.{Field, Sign, Link, Choice, Target, Var, stepped, reached, signed_onto, chain_onto, choose_onto, assign_onto, Where, in_body, in_header, in_alone, in_one, in_list, in_paren, in_items, in_field, in_args, in_element, in_sign, in_chain, in_then, in_else, in_assign, in_expr, in_give, in_value, in_if, in_while, in_first, in_test, in_next, in_when, in_either, in_loop, in_for, in_block, in_function, Frames, Jump, breaks, continues, State, need, have, dotted, at_key, begin, did, at_give, at_jump, at_name, named, at_first, at_test, at_next, expects}
 use Rattle.js_parser.specs.Machine.{Entry, an_expression, a_statement, a_body, takes, doing, looping, Held, held, closed_at, Placed, placed}
 use Rattle.js_parser.proofs.Tokens.{true_or_false, not_true}
@@ -84,7 +85,7 @@ StateReads y (named h p q back n r fs) s rest = (a : List Token) × (b : List To
 StateReads y (at_first p fs) s rest = LeftAt y (in_header p) fs s rest
 StateReads y (at_test p i fs) s rest = (a : List Token) × (b : List Token) × LeftAt y (in_header p) fs s a × ReadsFirst i a b × Sees (k.Mark m.Semicolon) b rest
 StateReads y (at_next p i e fs) s rest = (a : List Token) × (b : List Token) × (c : List Token) × (d : List Token) × LeftAt y (in_header p) fs s a × ReadsFirst i a b × Sees (k.Mark m.Semicolon) b c × ReadsMaybe e c d × Sees (k.Mark m.Semicolon) d rest
-StateReads y (expects x next) s rest = (t : Token) (more : List Token) → rest ≡ t ∷ more → t.what ≡ k.Mark x → StateReads y next s more
+StateReads y (expects x next) s rest = Shaped (expects x next) × ((t : Token) (more : List Token) → rest ≡ t ∷ more → t.what ≡ k.Mark x → StateReads y next s more)
 
 -- ---- how tight the wholes are
 

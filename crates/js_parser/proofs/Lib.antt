@@ -12,3 +12,7 @@ pub mod Steps
 pub mod Endings
 pub mod Exact
 pub mod Fronts
+pub mod Kept
+pub mod Follows
+pub mod Moving
+pub mod KeptExact

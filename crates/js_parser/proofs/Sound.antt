@@ -81,7 +81,7 @@ items_reads y (in_items p (e ∷ es) ∷ fs) s rest t next q (l_items {a = a} l 
 items_reads y _ s rest t next q l h = cc
 
 function_reads : (y : Entry) (e : Expr) (ss : List Step) (q : Place) (fs : Frames) (s a c rest : List Token) (t : Token) (next : State) → t.what ≡ k.Word w.Function → Left y fs s a → takes fs 16 ≡ true → ReadsBack e ss a c → tightness e ≡ 16 → One (k.Mark m.LeftParen) q c (t ∷ rest) → (r : Reached) → reached e ss ≡ r → at_function r e ss t.place fs ≡ Some next → StateReads y next s rest
-function_reads y e ss q fs s a c rest t next w l tk rb tight one at_binding at h = moved y s rest (some_is h) (λ t1 m1 e1 q1. λ t2 m2 e2 q2. λ t3 m3 e3 q3. (l_function l tk rb tight at (one_sees one) (a_token w) (see_at t1 rest m1 e1 q1) (see_at t2 m1 m2 e2 q2) (see_at t3 m2 m3 e3 q3) os_none, refl))
+function_reads y e ss q fs s a c rest t next w l tk rb tight one at_binding at h = moved y s rest (some_is h) (tt, λ t1 m1 e1 q1. (tt, λ t2 m2 e2 q2. (tt, λ t3 m3 e3 q3. (l_function l tk rb tight at (one_sees one) (a_token w) (see_at t1 rest m1 e1 q1) (see_at t2 m1 m2 e2 q2) (see_at t3 m2 m3 e3 q3) os_none, refl))))
 function_reads y e ss q fs s a c rest t next w l tk rb tight one at_qt at h = cc
 function_reads y e ss q fs s a c rest t next w l tk rb tight one elsewhere at h = cc
 
@@ -116,8 +116,8 @@ fields_end y p [] fs s a c rest t q l z one of_none = primary_reads y (fields p 
 fields_end y p (f ∷ back) fs s a c rest t q l z one (of_more {y = i} {n = n} {p = r} {e = e} o h d r1 w) = primary_reads y (fields p (fields_onto back (a_field i n r e no_fields)) true) fs s a rest l z refl (r_fields one (fields_closed o (f_last h d r1)) (a_comma (some_fields_onto back i n r e no_fields) w) (seen q))
 
 pub on_key_reads : (y : Entry) (p : Place) (back : List Field) (fs : Frames) (kind : TokenKind) (s rest : List Token) (t : Token) (next : State) → t.what ≡ kind → StateReads y (at_key p back fs) s (t ∷ rest) → on_key p back fs t.place kind ≡ Some next → StateReads y next s rest
-on_key_reads y p back fs (k.Name n) s rest t next q (a, c, l, z, one, o) h = moved y s rest (some_is h) (λ u more e w. (l_field {t = false} l z one o (a_token q) (see_at u rest more e w), refl))
-on_key_reads y p back fs (k.Text n) s rest t next q (a, c, l, z, one, o) h = moved y s rest (some_is h) (λ u more e w. (l_field {t = true} l z one o (a_token q) (see_at u rest more e w), refl))
+on_key_reads y p back fs (k.Name n) s rest t next q (a, c, l, z, one, o) h = moved y s rest (some_is h) (tt, λ u more e w. (l_field {t = false} l z one o (a_token q) (see_at u rest more e w), refl))
+on_key_reads y p back fs (k.Text n) s rest t next q (a, c, l, z, one, o) h = moved y s rest (some_is h) (tt, λ u more e w. (l_field {t = true} l z one o (a_token q) (see_at u rest more e w), refl))
 on_key_reads y p back fs (k.Mark m.RightBrace) s rest t next q (a, c, l, z, one, o) h = moved y s rest (some_is h) (fields_end y p back fs s a c rest t q l z one o)
 on_key_reads y p back fs _ s rest t next q r h = cc
 
@@ -140,9 +140,12 @@ else_reads y _ d s a rest t next q l x h = cc
 block_reads : (y : Entry) (fs : Frames) (s rest : List Token) (t : Token) (next : State) → t.what ≡ k.Mark m.RightBrace → Left y fs s (t ∷ rest) → ends_block fs ≡ Some next → StateReads y next s rest
 block_reads y (in_block p back ∷ fs) s rest t next q (l_block {a = a} l g one o) h = moved y s rest (some_is h) (a, l, g, s_block one (stmts_closed o ss_none) (seen q))
 block_reads y (in_function e ss p back ∷ fs) s rest t next q (l_function {a = a} {b = c} l tk rb tight at q1 q2 q3 q4 q5 o) h =
-    moved y s rest (some_is h) (λ u more e1 w1.
-    let P : Reached → Type 0 = λ z. ReadsStep z (binding p (stmts_onto back no_stmts)) c more in
-    stepped_reads y e (binding p (stmts_onto back no_stmts)) ss fs s a c more l tk rb tight (subst P (sym at) (p_binding q1 q2 q3 q4 q5 (stmts_closed o ss_none) (seen q) (see_at u rest more e1 w1))))
+    moved y s rest (some_is h) (
+      tt,
+      λ u more e1 w1.
+          let P : Reached → Type 0 = λ z. ReadsStep z (binding p (stmts_onto back no_stmts)) c more in
+          stepped_reads y e (binding p (stmts_onto back no_stmts)) ss fs s a c more l tk rb tight (subst P (sym at) (p_binding q1 q2 q3 q4 q5 (stmts_closed o ss_none) (seen q) (see_at u rest more e1 w1))),
+    )
 block_reads y _ s rest t next q l h = cc
 
 jump_reads : (y : Entry) (j : Jump) (fs : Frames) (s rest : List Token) (t : Token) (next : State) → t.what ≡ jump_kind j → Left y fs s (t ∷ rest) → doing fs ≡ true → on_jump j t.place fs ≡ Some next → StateReads y next s rest
@@ -152,9 +155,9 @@ pub on_begin_reads : (y : Entry) (fs : Frames) (kind : TokenKind) (s rest : List
 on_begin_reads y fs (k.Mark m.LeftBrace) s rest t next q l g h = moved y s rest (some_is h) (l_block l g (a_token q) os_none, refl)
 on_begin_reads y fs (k.Mark m.RightBrace) s rest t next q l g h = block_reads y fs s rest t next q l h
 on_begin_reads y fs (k.Mark m.Semicolon) s rest t next q l g h = moved y s rest (some_is h) (t ∷ rest, l, g, s_empty (a_token q))
-on_begin_reads y fs (k.Word w.If) s rest t next q l g h = moved y s rest (some_is h) (λ u more e z. (l_if l g (a_token q) (see_at u rest more e z), refl))
-on_begin_reads y fs (k.Word w.While) s rest t next q l g h = moved y s rest (some_is h) (λ u more e z. (l_while l g (a_token q) (see_at u rest more e z), refl))
-on_begin_reads y fs (k.Word w.For) s rest t next q l g h = moved y s rest (some_is h) (λ u more e z. w_header l g (a_token q) (see_at u rest more e z))
+on_begin_reads y fs (k.Word w.If) s rest t next q l g h = moved y s rest (some_is h) (tt, λ u more e z. (l_if l g (a_token q) (see_at u rest more e z), refl))
+on_begin_reads y fs (k.Word w.While) s rest t next q l g h = moved y s rest (some_is h) (tt, λ u more e z. (l_while l g (a_token q) (see_at u rest more e z), refl))
+on_begin_reads y fs (k.Word w.For) s rest t next q l g h = moved y s rest (some_is h) (tt, λ u more e z. w_header l g (a_token q) (see_at u rest more e z))
 on_begin_reads y fs (k.Word w.Return) s rest t next q l g h = moved y s rest (some_is h) (t ∷ rest, l, g, a_token q)
 on_begin_reads y fs (k.Word w.Break) s rest t next q l g h = jump_reads y breaks fs s rest t next q l g h
 on_begin_reads y fs (k.Word w.Continue) s rest t next q l g h = jump_reads y continues fs s rest t next q l g h

@@ -282,4 +282,4 @@ step_reads y (named i p q back n j fs) s rest t next r h = on_named_reads y i p 
 step_reads y (at_first p fs) s rest t next r h = on_first_reads y p fs t.what s rest t next refl r h
 step_reads y (at_test p i fs) s rest t next r h = on_test_reads y p i fs t.what s rest t next refl r h
 step_reads y (at_next p i e fs) s rest t next r h = on_next_reads y p i e fs t.what s rest t next refl r h
-step_reads y (expects x z) s rest t next r h = let c = chosen (is_mark x t.what) z next h in moved y s rest c.1 (r t rest refl (is_mark_tells x t.what c.0))
+step_reads y (expects x z) s rest t next r h = let c = chosen (is_mark x t.what) z next h in moved y s rest c.1 (r.1 t rest refl (is_mark_tells x t.what c.0))

@@ -1,79 +1,13 @@
 -- What a reader keeps open: the parts of trees that are read so far. In a list the latest stands in front.
-use Rattle.std.specs.Prelude.{Bool, List, [], ◌∷◌}
+use Rattle.std.specs.Prelude.{Bool, List}
 use Rattle.qml_base.specs.declared.numbers.Place.{Place}
+pub use Rattle.qml_syntax.specs.Onto.{Field, Sign, Link, Choice, Target, Var, exprs_onto, fields_onto, steps_onto, stepped, reached, signed_onto, chain_onto, choose_onto, assign_onto, vars_onto, stmts_onto}
 use Rattle.qml_syntax.specs.declared.mark.Mark.{Mark}
 use Rattle.qml_syntax.specs.declared.operators.Operator.{Operator}
 use Rattle.qml_syntax.specs.declared.operators.Prefix.{Prefix}
 use Rattle.qml_syntax.specs.declared.operators.Assignment.{Assignment}
 use Rattle.qml_syntax.specs.declared.literal.Declaration.{Declaration}
-use Rattle.qml_syntax.specs.Tree.{Units, Close, Expr, steps, signed, chain, choose, assign, Exprs, an_expr, Fields, a_field, Step, Steps, no_steps, a_step, Signs, a_sign, Links, a_link, Choices, a_choice, Targets, a_target, Stmt, stop, again, Stmts, a_stmt, Vars, a_var, Maybe, First}
-use Rattle.qml_syntax.specs.Levels.{Reached, start, beyond}
-
--- ---- parts, and the whole that they give before what is behind them
-
-abbrev pub Field : Type 0
-Field = Bool × Units × Place × Expr
-
-abbrev pub Sign : Type 0
-Sign = Prefix × Place
-
-abbrev pub Link : Type 0
-Link = Operator × Place × Expr
-
-abbrev pub Choice : Type 0
-Choice = Expr × Expr
-
-abbrev pub Target : Type 0
-Target = Expr × Assignment × Place
-
-abbrev pub Var : Type 0
-Var = Units × Place × Maybe
-
-abbrev pub exprs_onto : List Expr → Exprs → Exprs
-exprs_onto [] es = es
-exprs_onto (e ∷ back) es = exprs_onto back (an_expr e es)
-
-abbrev pub fields_onto : List Field → Fields → Fields
-fields_onto [] fs = fs
-fields_onto (f ∷ back) fs = fields_onto back (a_field f.0 f.1 f.2 f.3 fs)
-
-abbrev pub steps_onto : Expr → Step → List Step → Steps → Expr
-steps_onto e s [] ss = steps e s ss
-steps_onto e s (t ∷ back) ss = steps_onto e t back (a_step s ss)
-
--- an expression with the steps behind it
-abbrev pub stepped : Expr → List Step → Expr
-stepped e [] = e
-stepped e (s ∷ back) = steps_onto e s back no_steps
-
--- whether these are `Qt` or `Qt.binding`
-abbrev pub reached : Expr → List Step → Reached
-reached e [] = start e
-reached e (s ∷ back) = beyond (reached e back) s
-
-abbrev pub signed_onto : List Sign → Prefix → Place → Signs → Expr → Expr
-signed_onto [] g p ss e = signed g p ss e
-signed_onto (s ∷ back) g p ss e = signed_onto back s.0 s.1 (a_sign g p ss) e
-
-abbrev pub chain_onto : Expr → List Link → Operator → Place → Expr → Links → Expr
-chain_onto e [] op p d ls = chain e op p d ls
-chain_onto e (l ∷ back) op p d ls = chain_onto e back l.0 l.1 l.2 (a_link op p d ls)
-
-abbrev pub choose_onto : List Choice → Expr → Expr → Choices → Expr → Expr
-choose_onto [] c e cs d = choose c e cs d
-choose_onto (x ∷ back) c e cs d = choose_onto back x.0 x.1 (a_choice c e cs) d
-
-abbrev pub assign_onto : List Target → Expr → Assignment → Place → Targets → Expr → Expr
-assign_onto [] t g p ts v = assign t g p ts v
-assign_onto (x ∷ back) t g p ts v = assign_onto back x.0 x.1 x.2 (a_target t g p ts) v
-
-abbrev pub vars_onto : List Var → Vars → Vars
-vars_onto [] vs = vs
-vars_onto (v ∷ back) vs = vars_onto back (a_var v.0 v.1 v.2 vs)
-
-abbrev pub stmts_onto : List Stmt → Stmts → Stmts
-stmts_onto [] ss = ss
-stmts_onto (s ∷ back) ss = stmts_onto back (a_stmt s ss)
+use Rattle.qml_syntax.specs.Tree.{Units, Close, Expr, Step, Stmt, stop, again, Maybe, First}
 
 -- ---- frames
 

@@ -7,6 +7,7 @@ ghost use Rattle.qml_syntax.specs.Reads.{Reads, ReadsStmt, ReadsStmts};
 ghost use Rattle.js_parser.specs.Machine.{Entry, go, start_of};
 ghost use Rattle.js_parser.specs.Answer.{IsAnswer};
 ghost use Rattle.js_parser.specs.Front.{AreWhole, FrontAnswer, parse_of};
+ghost use Rattle.js_parser.specs.Kept.{kept_parse};
 
 /// At most one expression reads given tokens.
 #[tactic(auto, using(crate::proofs::Exact::one_expression))]
@@ -39,4 +40,10 @@ pub fn machine_is_exact()
 #[tactic(auto, using(crate::proofs::Fronts::front_answer))]
 pub fn machine_answers_at_each_place()
     ensures { (y : Entry) (tokens : List Token) (from : ℕ) → AreWhole tokens → from < length tokens → FrontAnswer y tokens from (parse_of y tokens from) }
+{}
+
+/// Nodes for the parts that are made and frames for what is open, moved by one token at a time, give that answer too.
+#[tactic(auto, using(crate::proofs::KeptExact::kept_answer))]
+pub fn kept_states_answer_at_each_place()
+    ensures { (y : Entry) (tokens : List Token) (from : ℕ) → AreWhole tokens → from < length tokens → FrontAnswer y tokens from (kept_parse y tokens from) }
 {}

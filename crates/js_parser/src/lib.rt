@@ -6,5 +6,6 @@
 
 mod fault;
 pub mod laws;
+mod open;
 
 pub use fault::ParseFault;

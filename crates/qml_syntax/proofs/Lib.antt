@@ -1,1 +1,3 @@
 pub mod FlatLemmas
+pub mod NodesLemmas
+pub mod DepthLemmas

@@ -3,5 +3,8 @@ pub mod Tree
 pub mod Levels
 pub mod Ends
 pub mod Reads
+pub mod Onto
+pub mod Nodes
 pub mod Flat
 pub mod Depth
+pub mod Standing

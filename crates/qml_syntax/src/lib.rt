@@ -9,12 +9,14 @@
 pub mod laws;
 mod literal;
 mod mark;
+mod node;
 mod operators;
 mod token;
 mod word;
 
 pub use literal::{Declaration, Literal};
 pub use mark::Mark;
+pub use node::{Close, Node, Nodes};
 pub use operators::{Assignment, Operator, Postfix, Prefix};
 pub use token::{Token, TokenKind};
 pub use word::Word;

@@ -1,6 +1,7 @@
 //! Operators of expressions, each with the token that it is written as.
 
 ghost use Rattle.std.specs.Prelude.{◌≡◌};
+ghost use Rattle.qml_syntax.specs.Levels.{level, operand};
 ghost use Rattle.qml_syntax.specs.Spelling.{operator_mark, prefix_kind, postfix_mark, assignment_mark};
 
 use crate::mark::Mark;
@@ -84,6 +85,38 @@ impl Operator {
             Operator::Times => Mark::Star,
             Operator::Divide => Mark::Slash,
             Operator::Remainder => Mark::Percent,
+        }
+    }
+
+    /// How tightly it binds, from the loosest: `??` is 2, `* / %` is 12.
+    pub fn level(self) -> u8
+        ensures { result ≡ level self }
+    {
+        match self {
+            Operator::Coalesce => 2,
+            Operator::Or => 3,
+            Operator::And => 4,
+            Operator::BitOr => 5,
+            Operator::BitXor => 6,
+            Operator::BitAnd => 7,
+            Operator::Equal
+            | Operator::NotEqual
+            | Operator::StrictEqual
+            | Operator::StrictNotEqual => 8,
+            Operator::Less | Operator::Greater | Operator::LessEqual | Operator::GreaterEqual => 9,
+            Operator::ShiftLeft | Operator::ShiftRight | Operator::ShiftRightUnsigned => 10,
+            Operator::Plus | Operator::Minus => 11,
+            Operator::Times | Operator::Divide | Operator::Remainder => 12,
+        }
+    }
+
+    /// How tightly both its operands bind at least. `??` isn't mixed with `||` and `&&`.
+    pub fn operand(self) -> u8
+        ensures { result ≡ operand self }
+    {
+        match self {
+            Operator::Coalesce => 5,
+            _ => self.level() + 1,
         }
     }
 }

@@ -1,0 +1,137 @@
+//! Trees as nodes, children before their parents.
+
+ghost use Rattle.std.specs.Prelude.{◌≡◌, [], OnOk, OnErr};
+ghost use Rattle.qml_syntax.specs.Nodes as n;
+
+use crate::literal::{Declaration, Literal};
+use crate::operators::{Assignment, Operator, Postfix, Prefix};
+use qml_base::{NoMemory, Place};
+use qml_text::Text;
+use std::alloc::Global;
+
+/// How a statement ends.
+#[derive(Clone, Copy, Debug, PartialEq, Eq)]
+pub enum Close {
+    /// By a `;` of its own.
+    Semi,
+    /// Without one.
+    Auto,
+}
+
+/// A node of a tree. Its parts are the nodes before it that no node between them and it has taken, the last part last.
+/// Where a node says that it is the first, it begins a chain, and else goes on with the one of the node before.
+#[derive(Debug, Drop)]
+pub enum Node {
+    /// What stands before the first part of a node with any number of parts.
+    Mark,
+    /// A name.
+    Name(Text, Place),
+    /// A number.
+    Number(u64, Place),
+    /// A text.
+    Text(Text, Place),
+    /// `true`, `false` or `null`.
+    Literal(Literal, Place),
+    /// Brackets round an expression.
+    Paren(Place),
+    /// A list of the expressions behind the mark, with a comma behind the last or not.
+    List(Place, bool),
+    /// Fields of the keys and expressions behind the mark, with a comma behind the last or not.
+    Fields(Place, bool),
+    /// The key of a field, a text or a name.
+    Key(bool, Text, Place),
+    /// A step to a member.
+    Member(Text, Place),
+    /// A step to the element at an expression.
+    Element(Place),
+    /// A call with the expressions behind the mark.
+    Call(Place),
+    /// The call of `Qt.binding` with a function of the statements behind the mark.
+    Binding(Place),
+    /// An expression with the steps behind it.
+    Steps,
+    /// An operator behind its operand.
+    Postfix(Postfix, Place),
+    /// A prefix before another one.
+    Sign(bool, Prefix, Place),
+    /// The last prefix, with its operand.
+    Signed(bool, Prefix, Place),
+    /// An operator with its right operand, before another operator of its chain.
+    Link(bool, Operator, Place),
+    /// The last operator of a chain, with its right operand.
+    Chain(bool, Operator, Place),
+    /// The condition and the middle of a choice.
+    Choice(bool),
+    /// The last part of a choice.
+    Choose,
+    /// What is assigned to, with the operator.
+    Target(bool, Assignment, Place),
+    /// The value of an assignment.
+    Assign,
+    /// `;` alone.
+    Empty(Place),
+    /// An expression as a statement.
+    Expression(Close),
+    /// A block of the statements behind the mark.
+    Block(Place),
+    /// A declared name; its value, if it has one, is the expression behind it.
+    Var(Text, Place),
+    /// The declaration of the names behind the mark.
+    Declare(Place, Declaration, Close),
+    /// `if` without `else`.
+    When(Place),
+    /// `if` with `else`.
+    Either(Place),
+    /// `while`.
+    While(Place),
+    /// `for`.
+    For(Place),
+    /// A `for` that begins with nothing.
+    NoFirst,
+    /// A `for` that begins with an expression.
+    FirstExpression,
+    /// A `for` that begins with the declaration of the names behind the mark.
+    FirstDeclare(Place, Declaration),
+    /// An expression that may be absent, and is.
+    Absent,
+    /// An expression that may be absent, and is there.
+    Present,
+    /// `return` alone.
+    Give(Place, Close),
+    /// `return` with a value.
+    GiveValue(Place, Close),
+    /// `break`.
+    Stop(Place, Close),
+    /// `continue`.
+    Again(Place, Close),
+}
+
+/// Nodes, children before their parents: they stand for the parts that no node has taken (`parts_of`, the latest in
+/// front). Dropping them needs no stack, however deep the tree is.
+#[derive(Debug, Drop)]
+pub struct Nodes {
+    nodes: Vec<Node>,
+}
+
+impl Nodes {
+    /// No node.
+    pub fn new(alloc: Global) -> Nodes
+        ensures { n.parts_of result.nodes.items ≡ [] }
+    {
+        Nodes {
+            nodes: Vec::new(alloc),
+        }
+    }
+
+    /// Adds a node, which takes its parts. On an error nothing changes.
+    #[tactic(auto, using(crate::proofs::NodesLemmas::parts_push))]
+    pub fn push(&mut self, node: Node) -> Result<(), NoMemory>
+        ensures added { OnOk result (n.parts_of self.new.nodes.items ≡ n.apply node (n.parts_of self.old.nodes.items)) }
+        ensures kept { OnErr result (self.new.nodes.items ≡ self.old.nodes.items) }
+    {
+        match self.nodes.push(node) {
+            Ok(()) => Ok(()),
+            Err(_) => Err(NoMemory),
+        }
+    }
+}
