@@ -16,3 +16,4 @@ pub mod Kept
 pub mod Follows
 pub mod Moving
 pub mod KeptExact
+pub mod Again

@@ -58,3 +58,11 @@ kept_start a_body = tape (mark ∷ []) (f.List ∷ []) n.Begin
 -- the answer at a place among the tokens of a file
 abbrev pub kept_parse : Entry → List Token → ℕ → Result (Whole × ℕ) ParseFault
 kept_parse y tokens from = by_outcome (length tokens) (kept_go (drop from tokens) (kept_start y))
+
+-- ---- what closing all, or ending all statements, makes of what was closed or ended in part
+
+abbrev pub closed_again : Closed → Closed
+closed_again (closed s fs tight target) = close_at 0 fs s tight target
+
+abbrev pub over_again : Over → Over
+over_again (over_at s fs) = is_over fs s

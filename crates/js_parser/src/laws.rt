@@ -1,13 +1,15 @@
 //! Laws of the definitions, each as the contract of a call that does nothing.
 
-ghost use Rattle.std.specs.Prelude.{◌≡◌, ℕ, ◌<◌, length, false, List, []};
+ghost use Rattle.std.specs.Prelude.{◌≡◌, ℕ, ◌<◌, length, Bool, false, List, []};
 ghost use Rattle.qml_syntax.specs.declared.token.Token.{Token};
 ghost use Rattle.qml_syntax.specs.Tree.{Expr, Stmt, Stmts};
 ghost use Rattle.qml_syntax.specs.Reads.{Reads, ReadsStmt, ReadsStmts};
 ghost use Rattle.js_parser.specs.Machine.{Entry, go, start_of};
 ghost use Rattle.js_parser.specs.Answer.{IsAnswer};
 ghost use Rattle.js_parser.specs.Front.{AreWhole, FrontAnswer, parse_of};
-ghost use Rattle.js_parser.specs.Kept.{kept_parse};
+ghost use Rattle.js_parser.specs.Kept.{kept_parse, closed_again, over_again};
+ghost use Rattle.js_parser.specs.Moves.{Open, close_at, is_over};
+ghost use Rattle.qml_syntax.specs.Nodes.{Parts};
 
 /// At most one expression reads given tokens.
 #[tactic(auto, using(crate::proofs::Exact::one_expression))]
@@ -46,4 +48,16 @@ pub fn machine_answers_at_each_place()
 #[tactic(auto, using(crate::proofs::KeptExact::kept_answer))]
 pub fn kept_states_answer_at_each_place()
     ensures { (y : Entry) (tokens : List Token) (from : ℕ) → AreWhole tokens → from < length tokens → FrontAnswer y tokens from (kept_parse y tokens from) }
+{}
+
+/// Closing some of what is open leaves the whole as it was: closing all of it then gives what closing all at once gives.
+#[tactic(auto, using(crate::proofs::Again::closed_stays))]
+pub fn closing_leaves_the_whole()
+    ensures { (i : ℕ) (fs : Open) (s : Parts) (tight : ℕ) (target : Bool) → closed_again (close_at i fs s tight target) ≡ close_at 0 fs s tight target }
+{}
+
+/// Statements that have been ended stay ended as they were.
+#[tactic(auto, using(crate::proofs::Again::over_stays))]
+pub fn ended_statements_stay()
+    ensures { (fs : Open) (s : Parts) → over_again (is_over fs s) ≡ is_over fs s }
 {}
