@@ -10,7 +10,7 @@ use crate::stack::Stack;
 use qml_base::NoMemory;
 use qml_syntax::{Node, Nodes, Prefix};
 
-fn is_bump(prefix: Prefix) -> bool
+pub fn is_bump(prefix: Prefix) -> bool
     ensures { result ≡ l.is_bump prefix }
 {
     match prefix {

@@ -7,6 +7,7 @@
 mod close;
 mod fault;
 pub mod laws;
+mod need;
 mod open;
 mod stack;
 
