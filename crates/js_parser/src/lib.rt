@@ -4,8 +4,11 @@
 //! the contracts of the calls in `laws`.
 #![tactic(auto)]
 
+mod close;
 mod fault;
 pub mod laws;
+mod need;
 mod open;
+mod stack;
 
 pub use fault::ParseFault;
