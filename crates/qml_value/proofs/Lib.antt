@@ -1,3 +1,4 @@
 pub mod RowLemmas
 pub mod TextLemmas
 pub mod NamingLemmas
+pub mod BuilderLemmas

@@ -7,3 +7,4 @@ pub mod Truth
 pub mod Texts
 pub mod Lists
 pub mod Naming
+pub mod Building

@@ -4,6 +4,6 @@ use Rattle.qml_value.specs.declared.value.Value.{Value}
 use Rattle.qml_value.specs.declared.list.TooDeep.{TooDeep}
 use Rattle.qml_value.specs.Weights.{deepest}
 
--- the list of these values, if it isn't nested more than 1,000 deep
+-- the list of these values, if it isn't nested more than 100 deep
 abbrev pub list_of : List Value → Result (List Value) TooDeep
-list_of values = if nat_le (1 + deepest values) 1000 then Ok values else Err (record {})
+list_of values = if nat_le (1 + deepest values) 100 then Ok values else Err (record {})

@@ -36,6 +36,6 @@ pub record IsFirstNamed (fields : List Field) (name : List ℕ) (at : ℕ) : Typ
 
 -- what putting a value under a name answers, and what the fields are then
 abbrev pub IsPut : List ℕ → Value → List Field → List Field → Result (Unit {0}) PutFault → Type 0
-IsPut name value old new (Ok done) = Puts name value old new × (1 + nesting_of value ≤ 1000)
-IsPut name value old new (Err fault.TooDeep) = (new ≡ old) × (1000 < 1 + nesting_of value)
+IsPut name value old new (Ok done) = Puts name value old new × (1 + nesting_of value ≤ 100)
+IsPut name value old new (Err fault.TooDeep) = (new ≡ old) × (100 < 1 + nesting_of value)
 IsPut name value old new (Err fault.NoMemory) = new ≡ old

@@ -4,16 +4,16 @@ ghost use Rattle.std.specs.Prelude.{◌≡◌, [], MatchOption};
 ghost use Rattle.qml_value.specs.Naming.{Lacks, StandsUnder, IsFirstNamed, IsPut, HasDistinctNames};
 ghost use Rattle.qml_value.specs.declared.fields.PutFault.TheVariants as fault;
 
-use crate::list::DEEPEST;
 use crate::row::Row;
 use crate::value::{Field, Fields, Value};
+use crate::weight::MOST_NESTED;
 use qml_text::Text;
 use std::alloc::{AllocFailed, Global};
 
 /// Why a value isn't put under a name.
 #[derive(Clone, Copy, Debug, PartialEq, Eq)]
 pub enum PutFault {
-    /// The fields would be nested more than 1,000 deep.
+    /// The fields would be nested more than 100 deep.
     TooDeep,
     /// There was no memory.
     NoMemory,
@@ -37,12 +37,12 @@ impl Row<Field> {
     }
 
     /// Puts a value under a name: in the place of the value that stands under it, else behind all others. The answer is
-    /// `TooDeep` exactly where the fields would be nested more than 1,000 deep; on an error they stay as they were.
+    /// `TooDeep` exactly where the fields would be nested more than 100 deep; on an error they stay as they were.
     pub fn put(&mut self, name: Text, value: Value) -> Result<(), PutFault>
         ensures put { IsPut name value self.old self.new result }
         ensures distinct { HasDistinctNames self.old → HasDistinctNames self.new }
     {
-        if value.nesting() >= DEEPEST {
+        if value.nesting() >= MOST_NESTED {
             return Err(PutFault::TooDeep);
         }
         match place_of(self.parts(), &name) {

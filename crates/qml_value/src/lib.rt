@@ -4,6 +4,7 @@
 //! names (`specs/Naming.antt`). Want of memory is the only free answer.
 #![tactic(auto)]
 
+mod builder;
 mod fields;
 mod laws;
 mod list;
@@ -17,12 +18,13 @@ mod truth;
 mod value;
 mod weight;
 
+pub use builder::FieldsBuilder;
 pub use fields::PutFault;
 pub use laws::{
     one_value_under_a_name, parts_make_the_whole, puts_one_value, same_values_measure_the_same,
     sameness_goes_by_contents, sameness_is_an_equivalence,
 };
-pub use list::{DEEPEST, TooDeep};
+pub use list::TooDeep;
 pub use number::{Num, PastLimit};
 pub use row::Row;
 pub use text::TextOfFault;

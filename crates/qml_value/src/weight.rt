@@ -8,7 +8,8 @@ use crate::value::{Field, Value};
 /// The greatest weight that is not too heavy.
 pub const HEAVIEST: usize = 1_048_576;
 
-/// The greatest nesting that is not too heavy.
+/// The greatest nesting that is not too heavy. No list or fields nested deeper can be built, so no call on a value goes
+/// down further than this.
 pub const MOST_NESTED: usize = 100;
 
 impl Value {

@@ -1,8 +1,9 @@
-//! Builds a list of numbers, copies, compares, weighs and prints it, and says what came of that. With the word `speed` it
-//! has a million numbers, and the processor's time of each is told. It is no part of the product.
+//! Builds a list of numbers, copies, compares, weighs and prints it, then builds fields, and says what came of that. With
+//! the word `speed` they have a million numbers, and the processor's time of each is told. It is no part of the product.
 #![tactic(auto)]
 
-use qml_value::{List, Num, Value};
+use qml_text::Text;
+use qml_value::{FieldsBuilder, List, Num, Value};
 use std::alloc::{AllocError, Global};
 use std::time::CpuClock;
 use std::{env, io};
@@ -14,6 +15,20 @@ fn digits(alloc: Global, count: u32) -> Result<Option<Value>, AllocError> {
         values.push(Value::Num(Num::small(i % 10)))?;
     }
     Ok(List::from_vec(values).ok().map(Value::List))
+}
+
+/// Fields with so many numbers as names; none where there is no memory.
+fn fields(alloc: Global, count: u32) -> Option<Value> {
+    let mut builder = FieldsBuilder::new(alloc);
+    for i in 0..count {
+        let Ok(name) = Text::of_number(alloc, i64::from(i)) else {
+            return None;
+        };
+        if builder.put(alloc, &name, Value::Null).is_err() {
+            return None;
+        }
+    }
+    builder.finish(alloc).ok().map(Value::Fields)
 }
 
 /// The processor's time so far, in microseconds.
@@ -49,6 +64,14 @@ fn compare(rt: &HostRuntime, value: &Value, timed: bool) -> io::Result<()> {
     tell(rt, "same", same, begun, timed)
 }
 
+fn name(rt: &HostRuntime, count: u32, timed: bool) -> io::Result<()> {
+    let begun = micros(rt)?;
+    match fields(rt.alloc(), count) {
+        Some(value) => tell(rt, "fields weigh", value.weight(), begun, timed),
+        None => println!(rt; "no memory"),
+    }
+}
+
 /// The units of the text, or 0 where it is too heavy to be built.
 fn print(rt: &HostRuntime, value: &Value, timed: bool) -> io::Result<()> {
     let begun = micros(rt)?;
@@ -64,7 +87,8 @@ fn measure(rt: &HostRuntime, count: u32, timed: bool) -> io::Result<()> {
         Ok(Some(value)) => {
             weigh(rt, &value, timed)?;
             compare(rt, &value, timed)?;
-            print(rt, &value, timed)
+            print(rt, &value, timed)?;
+            name(rt, count, timed)
         }
         _ => println!(rt; "no memory"),
     }
