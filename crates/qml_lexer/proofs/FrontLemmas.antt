@@ -9,8 +9,8 @@ use Rattle.qml_syntax.specs.declared.token.TokenKind.{TokenKind}
 use Rattle.qml_syntax.specs.declared.token.TokenKind.TheVariants as kind
 use Rattle.qml_lexer.specs.declared.fault.LexCause.{LexCause}
 use Rattle.qml_lexer.specs.declared.fault.LexCause.TheVariants as cause
-use Rattle.qml_lexer.specs.declared.front.Item.{Item}
-use Rattle.qml_lexer.specs.declared.front.Item.TheVariants as item
+use Rattle.qml_lexer.specs.Items.{Item}
+use Rattle.qml_lexer.specs.Items as item
 use Rattle.qml_lexer.specs.declared.marks.TheConstants.{MARKS}
 use Rattle.qml_lexer.specs.Characters.{run, behind, is_blank, is_in_line, is_part, is_quote, is_start}
 use Rattle.qml_lexer.specs.Causes.{BeginsBlock, HasCause, HasWrongEscape}

@@ -1,16 +1,20 @@
 -- How reading goes on.
-use Rattle.std.proofs.Common.{◌≡◌, ℕ, ◌+◌, ◌<◌, List, [], ◌∷◌, ◌++◌, length, Ok, Err, refl, sym, ap, arith, subst, append_assoc, length-append}
+use Rattle.std.proofs.Common.{◌≡◌, ℕ, ◌+◌, ◌<◌, List, [], ◌∷◌, ◌++◌, length, Ok, Err, refl, sym, ap, ◌∙◌, arith, subst, append_assoc, length-append}
 use Rattle.std.specs.Str.{IsUtf8, chars, encode_utf8_all}
 use Rattle.std.proofs.lemmas.Str.{length-le-encodes, encodes-chars, chars-nil}
 use Rattle.qml_syntax.specs.declared.token.TokenKind.{TokenKind}
 use Rattle.qml_syntax.specs.declared.token.TokenKind.TheVariants.{End}
 use Rattle.qml_syntax.specs.declared.token.Token.{Token}
 use Rattle.qml_lexer.specs.declared.fault.LexCause.{LexCause}
-use Rattle.qml_lexer.specs.declared.front.Item.{Item}
-use Rattle.qml_lexer.specs.declared.front.Item.TheVariants as item
+use Rattle.qml_lexer.specs.Items.{Item}
+use Rattle.qml_lexer.specs.Items as item
 use Rattle.qml_lexer.specs.declared.lexer.Cursor.{Cursor}
 use Rattle.qml_lexer.specs.Front.{front}
-use Rattle.qml_lexer.specs.Lex.{Takes, Tokens, at_end, over_gap, over_token, Sticks, here, later, bytes_of, token, token_at, IsAt}
+use Rattle.qml_lexer.specs.Lex.{Takes, Tokens, at_end, over_gap, over_token, Sticks, here, later, bytes_of, token_at, spot, IsAt}
+use Rattle.qml_lexer.specs.declared.found.Piece.{Piece}
+use Rattle.qml_lexer.specs.declared.found.Piece.TheVariants as piece
+use Rattle.qml_lexer.specs.declared.found.Spot.{Spot}
+use Rattle.qml_lexer.specs.Reading.{token_on, PutsPiece}
 use Rattle.qml_lexer.specs.Turns.{Leads}
 use Rattle.qml_lexer.proofs.FrontLemmas.{front_takes, front_stuck}
 use Rattle.qml_lexer.proofs.Utf8Lemmas.{split_bytes}
@@ -47,7 +51,7 @@ gap_turn body cursor next xs w more taken found e k g a n l = let t : Takes w it
   sticks = λ stop c h. l.sticks stop c (later w more item.Gap e t (let P : ℕ → Type 0 = λ z. Sticks z more stop c in subst P a h));
 }
 
-pub token_is : (body : List ℕ) (cursor : Cursor) (what : TokenKind) → IsAt body cursor → token what cursor ≡ token_at body cursor.token_end cursor.at what
+pub token_is : (body : List ℕ) (cursor : Cursor) (what : TokenKind) → IsAt body cursor → token_on (spot cursor) what ≡ token_at body cursor.token_end cursor.at what
 token_is body cursor what a = rw (a.number, a.start) refl
 
 pub token_turn : (body : List ℕ) (cursor next : Cursor) (xs w more : List ℕ) (taken : Item) (what : TokenKind) (found new : List Token) (t : Token) → xs ≡ w ++ more → Takes w taken more
@@ -58,6 +62,27 @@ token_turn body cursor next xs w more taken what found new t e j g a n i m l = l
       (over_token w more what e k (let P : ℕ → Type 0 = λ z. Tokens body z (cursor.at + bytes_of w) more ts in subst P n (let Q : ℕ → Type 0 = λ z. Tokens body next.token_end z more ts in subst Q a h))));
   sticks = λ stop c h. l.sticks stop c (later w more (item.Token what) e k (let P : ℕ → Type 0 = λ z. Sticks z more stop c in subst P a h));
 }
+
+-- where the last token ends behind a piece
+abbrev pub Ends : Piece → Cursor → Cursor → Type 0
+Ends piece.Gap cursor next = next.token_end ≡ cursor.token_end
+Ends piece.Token cursor next = next.token_end ≡ next.at
+
+pub shorter : (sp : Spot) (p : Piece) (old new : List Token) (rest behind : List ℕ) → IsUtf8 rest → IsUtf8 behind → PutsPiece sp old new p (chars behind) (front (chars rest))
+    → length behind < length rest
+shorter sp piece.Gap old new rest behind u v h = let t = taken_off rest behind item.Gap u v h.0 in omega (arith, t.bytes, t.some)
+shorter sp piece.Token old new rest behind u v h = let t = taken_off rest behind (item.Token h.0) u v h.1 in omega (arith, t.bytes, t.some)
+
+pub leads_on : (body : List ℕ) (cursor next : Cursor) (sp : Spot) (p : Piece) (old new : List Token) (rest behind : List ℕ) → IsUtf8 rest → IsUtf8 behind
+    → PutsPiece sp old new p (chars behind) (front (chars rest)) → sp ≡ spot cursor → IsAt body cursor → cursor.at + length rest ≡ length body → next.at + length behind ≡ length body
+    → Ends p cursor next → Leads body cursor (chars rest) old → Leads body next (chars behind) new
+leads_on body cursor next sp piece.Gap old new rest behind u v h e i a b n l =
+    let t = taken_off rest behind item.Gap u v h.0 in
+    rw (h.1) (gap_turn body cursor next (chars rest) t.w (chars behind) item.Gap old t.cut t.takes refl (omega (arith, t.bytes)) n l)
+leads_on body cursor next sp piece.Token old new rest behind u v h e i a b n l =
+    let t = taken_off rest behind (item.Token h.0) u v h.1 in
+    token_turn body cursor next (chars rest) t.w (chars behind) (item.Token h.0) h.0 old new (token_on sp h.0) t.cut t.takes refl (omega (arith, t.bytes)) (omega (arith, t.bytes, n))
+    (ap (λ z. token_on z h.0) e ∙ token_is body cursor h.0 i) h.2 l
 
 some_chars : (rest : List ℕ) → IsUtf8 rest → 0 < length rest → 0 < length (chars rest)
 some_chars rest u l = by (chars rest) (encodes-chars rest u)
@@ -70,7 +95,7 @@ pub stuck : (at : ℕ) (rest : List ℕ) (c : LexCause) → IsUtf8 rest → 0 < 
 stuck at rest c u l e = here (front_stuck (chars rest) c (some_chars rest u l) e)
 
 pub ended : (body rest : List ℕ) (cursor : Cursor) (found new : List Token) (t : Token) → Leads body cursor (chars rest) found → length rest ≡ 0 → IsAt body cursor
-    → t ≡ token End cursor → new ≡ found ++ t ∷ [] → Tokens body 0 0 (chars body) new
+    → t ≡ token_on (spot cursor) End → new ≡ found ++ t ∷ [] → Tokens body 0 0 (chars body) new
 ended body [] cursor found new t l z a i m = rw (m, i, token_is body cursor End a) (l.tokens (token_at body cursor.token_end cursor.at End ∷ []) (at_start refl))
   where
     at_start : chars [] ≡ chars [] → Tokens body cursor.token_end cursor.at (chars []) (token_at body cursor.token_end cursor.at End ∷ [])

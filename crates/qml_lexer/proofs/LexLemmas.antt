@@ -12,8 +12,8 @@ use Rattle.qml_lexer.specs.declared.fault.LexCause.{LexCause}
 use Rattle.qml_lexer.specs.declared.fault.LexCause.TheVariants as cause
 use Rattle.qml_lexer.specs.declared.fault.LexFault.{LexFault}
 use Rattle.qml_lexer.specs.declared.fault.LexFault.TheVariants as fault
-use Rattle.qml_lexer.specs.declared.front.Item.{Item}
-use Rattle.qml_lexer.specs.declared.front.Item.TheVariants as item
+use Rattle.qml_lexer.specs.Items.{Item}
+use Rattle.qml_lexer.specs.Items as item
 use Rattle.qml_lexer.specs.Causes.{HasCause, HasWrongEscape}
 use Rattle.qml_lexer.specs.Characters.{begins, is_quote}
 use Rattle.qml_lexer.specs.Front.{front}

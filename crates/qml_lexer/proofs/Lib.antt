@@ -1,8 +1,8 @@
 pub mod CharacterLemmas
+pub mod FirstLemmas
 pub mod FrontLemmas
 pub mod GapLemmas
 pub mod LeadLemmas
-pub mod LengthLemmas
 pub mod LexLemmas
 pub mod LiteralLemmas
 pub mod MarkLemmas

@@ -1,5 +1,5 @@
 -- Names and reserved words.
-use Rattle.std.proofs.Common.{◌≡◌, ◌≢◌, ℕ, ◌-◌, ◌<◌, Bool, true, false, List, [], ◌∷◌, ◌++◌, length, take, Option, Some, None, Ok, refl, sym, ap, ◌∙◌, arith, subst, append-nil, if◌then◌else◌}
+use Rattle.std.proofs.Common.{◌≡◌, ◌≢◌, ℕ, ◌<◌, Bool, true, false, List, [], ◌∷◌, ◌++◌, length, Option, Some, None, Ok, refl, sym, ap, ◌∙◌, arith, subst, append-nil, if◌then◌else◌}
 use Rattle.std.specs.List.{list_all}
 use Rattle.std.specs.Char.{is_ascii_lowercase, is_ascii_alphabetic}
 use Rattle.std.specs.Prelude.{nat_lt}
@@ -25,18 +25,15 @@ use Rattle.qml_lexer.proofs.NumberLemmas.{AtLeast, Cut}
 use Rattle.qml_lexer.proofs.PairLemmas.{ok_parts}
 use Rattle.qml_lexer.proofs.RunLemmas.{and_true, and_both, run_passes, run_over, behind_over, behind_short, run_none}
 use Rattle.qml_lexer.proofs.TableLemmas.{word_letters, word_length, word_found}
-use Rattle.qml_lexer.proofs.Utf8Lemmas.{run_is_front, run-behind}
+use Rattle.qml_lexer.proofs.Utf8Lemmas.{run-behind}
 
 pub kind_is : (bytes : List ℕ) (o : Option Word) → IsUtf8 bytes → o ≡ word_among WORDS bytes → word_or o (chars bytes) ≡ kind_of (chars bytes)
 unfolding kind_of
 kind_is bytes o u e = ap (λ z. word_or z (chars bytes)) (e ∙ ap (word_among WORDS) (sym (encodes-chars bytes u)))
 
-pub name_is : (text rest taken : List ℕ) (kind : TokenKind) → IsUtf8 text → IsUtf8 rest → chars rest ≡ behind is_part (chars text)
-    → taken ≡ take (length text - length rest) text → kind ≡ kind_of (chars taken) → name (chars text) ≡ Ok (kind, chars rest)
+pub name_is : (xs spelt rest : List ℕ) → spelt ≡ run is_part xs → rest ≡ behind is_part xs → name xs ≡ Ok (kind_of spelt, rest)
 unfolding name
-name_is text rest taken kind u v e t k =
-    let of_run : kind ≡ kind_of (run is_part (chars text)) = k ∙ ap (λ z. kind_of (chars z)) t ∙ ap kind_of (run_is_front is_part text rest u v e) in
-    rw (of_run, e) refl
+name_is xs spelt rest s e = rw (s, e) refl
 
 -- ---- words
 

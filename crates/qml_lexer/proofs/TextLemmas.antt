@@ -1,13 +1,16 @@
 -- Texts between quotes.
-use Rattle.std.proofs.Common.{◌≡◌, ◌≢◌, ℕ, ◌+◌, ◌*◌, Bool, true, false, ◌&&◌, List, [], ◌∷◌, ◌++◌, Option, Some, None, Ok, Err, refl, sym, ap, ◌∙◌, append_assoc, if◌then◌else◌, arith}
+use Rattle.std.proofs.Common.{◌≡◌, ◌≢◌, ℕ, ◌+◌, ◌*◌, Bool, true, false, ◌&&◌, List, [], ◌∷◌, ◌++◌, length, drop, get_or, not, Option, Some, None, Ok, Err, refl, sym, ap, ◌∙◌, append_assoc, if◌then◌else◌, arith}
 use Rattle.std.proofs.lemmas.Bool.Decides.{nat_tests}
 use Rattle.std.specs.Prelude.{◌==◌, option_and_then}
 use Rattle.std.specs.Char.{digit_value, is_digit}
 use Rattle.std.specs.Char.Escape.{encode_utf16}
 use Rattle.qml_lexer.specs.declared.fault.LexCause.TheVariants as cause
-use Rattle.qml_lexer.specs.Characters.{is_line_end}
+use Rattle.qml_text.specs.Utf.{encode_utf16_all}
+use Rattle.qml_lexer.specs.Characters.{is_line_end, is_quote, is_plain, run, behind}
 use Rattle.qml_lexer.specs.Numbers.{first_digit}
 use Rattle.qml_lexer.specs.Texts.{ReadsText, and_digit, two_digits, four_digits, with_rest, escape, simple_escape, with_units, with_escaped, is_hex, body, behind_backslash, two_in, four_in}
+use Rattle.qml_lexer.proofs.CharacterLemmas.{different, never}
+use Rattle.qml_lexer.proofs.RunLemmas.{and_true}
 
 pub with_units-append : (front more : List ℕ) (r : ReadsText) → with_units front (with_units more r) ≡ with_units (front ++ more) r
 with_units-append front more (Ok p) = rw append_assoc refl
@@ -135,3 +138,28 @@ pub one_other : (q : ℕ) (whole : ReadsText) (units new xs : List ℕ) (x : ℕ
 one_other q whole units new xs x behind w e n l b m =
     w ∙ ap (λ z. with_units units (body q z)) e ∙ ap (with_units units) (at_other q x behind n l b)
     ∙ with_units-append units (encode_utf16 x) (body q behind) ∙ ap (λ z. with_units z (body q behind)) (sym m)
+
+-- ---- texts without escapes
+
+not_so : (v : Bool) → not v ≡ true → v ≡ false
+not_so true h = cc
+not_so false h = refl
+
+plain_apart : (q x : ℕ) → is_quote q ≡ true → is_plain x ≡ true → (x ≢ q) × (is_line_end x ≡ false) × (x ≢ 92)
+plain_apart q x h p =
+    let t = and_true (not (is_quote x) && not (is_line_end x)) (not (x == 92)) p in
+    let u = and_true (not (is_quote x)) (not (is_line_end x)) t.0 in
+    (λ e. never (is_quote x) (ap is_quote e ∙ h) (not_so (is_quote x) u.0), not_so (is_line_end x) u.1, different x 92 (not_so (x == 92) t.1))
+
+pub plain_body : (q : ℕ) (xs after : List ℕ) → is_quote q ≡ true → behind is_plain xs ≡ q ∷ after → body q xs ≡ Ok (encode_utf16_all (run is_plain xs), after)
+plain_body q [] after h e = absurd (omega (arith, ap length e))
+plain_body q (x ∷ xs) after h e = by (λ z. plain_body q xs after h z) (is_plain x) refl e
+  where
+    by : (behind is_plain xs ≡ q ∷ after → body q xs ≡ Ok (encode_utf16_all (run is_plain xs), after)) → (v : Bool) → is_plain x ≡ v → (if v then behind is_plain xs else x ∷ xs) ≡ q ∷ after
+        → body q (x ∷ xs) ≡ Ok (encode_utf16_all (if v then x ∷ run is_plain xs else []), after)
+    by r true p d = let t = plain_apart q x h p in at_other q x xs t.0 t.1 t.2 ∙ ap (with_units (encode_utf16 x)) (r d)
+    by r false p d =
+        let same : x ≡ q = ap (λ ys. get_or ys 0 0) d in
+        let rest : xs ≡ after = ap (drop 1) d in
+        let met : (x == q) ≡ true = grind (arith, nat_tests) in
+        rw (met, rest) refl

@@ -1,5 +1,5 @@
 -- Classes of characters, and runs of one class.
-use Rattle.std.specs.Prelude.{ℕ, Bool, false, not, ◌||◌, ◌==◌, List, [], ◌∷◌, if◌then◌else◌}
+use Rattle.std.specs.Prelude.{ℕ, Bool, false, not, ◌&&◌, ◌||◌, ◌==◌, List, [], ◌∷◌, if◌then◌else◌}
 use Rattle.unicode_ident.specs.Ident.{is_xid_start, is_xid_continue}
 
 -- a name begins with a start of an identifier, `_` or `$`
@@ -23,6 +23,10 @@ is_blank x = (x == 32) || (x == 9) || (x == 11) || (x == 12) || is_line_end x ||
 
 abbrev pub is_quote : ℕ → Bool
 is_quote x = (x == 34) || (x == 39)
+
+-- it stands for itself between either quotes
+abbrev pub is_plain : ℕ → Bool
+is_plain x = (not (is_quote x) && not (is_line_end x)) && not (x == 92)
 
 -- a character of the class stands at the front
 abbrev pub begins : (ℕ → Bool) → List ℕ → Bool

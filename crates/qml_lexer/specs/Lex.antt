@@ -10,8 +10,9 @@ use Rattle.qml_lexer.specs.declared.fault.LexCause.{LexCause}
 use Rattle.qml_lexer.specs.declared.fault.LexCause.TheVariants as cause
 use Rattle.qml_lexer.specs.declared.fault.LexFault.{LexFault}
 use Rattle.qml_lexer.specs.declared.fault.LexFault.TheVariants as fault
-use Rattle.qml_lexer.specs.declared.front.Item.{Item}
-use Rattle.qml_lexer.specs.declared.front.Item.TheVariants as item
+use Rattle.qml_lexer.specs.Items.{Item}
+use Rattle.qml_lexer.specs.Items as item
+use Rattle.qml_lexer.specs.declared.found.Spot.{Spot}
 use Rattle.qml_lexer.specs.declared.lexer.Cursor.{Cursor}
 use Rattle.qml_lexer.specs.Causes.{HasCause}
 use Rattle.qml_lexer.specs.Gaps.{IsGap}
@@ -80,8 +81,9 @@ IsUnread bytes (Ok ts) = Unit {0}
 IsUnread bytes (Err (fault.Bad place c)) = (ts : List Token) → ¬ (IsLexed bytes ts)
 IsUnread bytes (Err fault.NoMemory) = Unit {0}
 
-abbrev pub token : TokenKind → Cursor → Token
-token what cursor = record { what = what; place = record { line = cursor.line.number; column = 1 + (cursor.at - cursor.line.start) }; after_line = nat_lt cursor.token_end cursor.line.start }
+-- where a token at a cursor begins
+abbrev pub spot : Cursor → Spot
+spot cursor = record { place = record { line = cursor.line.number; column = 1 + (cursor.at - cursor.line.start) }; after_line = nat_lt cursor.token_end cursor.line.start }
 
 abbrev pub IsAt : List ℕ → Cursor → Type 0
 IsAt bytes cursor = IsLineAt bytes cursor.at cursor.line

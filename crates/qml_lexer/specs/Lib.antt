@@ -2,6 +2,7 @@ pub mod Causes
 pub mod Characters
 pub mod Front
 pub mod Gaps
+pub mod Items
 pub mod Lex
 pub mod Marks
 pub mod Names

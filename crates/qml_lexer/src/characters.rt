@@ -107,6 +107,17 @@ impl Class for InLine {
     }
 }
 
+/// The characters that stand for themselves between either quotes.
+pub struct Plain;
+
+impl Class for Plain {
+    ghost holds = { s.is_plain };
+
+    fn has(&self, character: char) -> bool {
+        !is_quote(character) && !is_line_end(character) && character != '\\'
+    }
+}
+
 /// Whether the text begins with a character of the class.
 pub fn begins<C: Class>(text: &str, class: &C) -> bool
     ensures { result ≡ s.begins C.holds (chars text.now) }
@@ -129,4 +140,13 @@ pub fn behind_run<'a, C: Class>(text: &'a str, class: &C) -> &'a str
         rest = behind;
     }
     rest
+}
+
+/// The characters of the class at the front, and what stands behind them.
+pub fn split_run<'a, C: Class>(text: &'a str, class: &C) -> (&'a str, &'a str)
+    ensures front { chars result.0.now ≡ s.run C.holds (chars text.now) }
+    ensures behind { chars result.1.now ≡ s.behind C.holds (chars text.now) }
+{
+    let behind = behind_run(text, class);
+    (&text[..text.len() - behind.len()], behind)
 }

@@ -6,7 +6,6 @@ ghost use Rattle.qml_lexer.specs.declared.fault.LexFault.TheVariants as lex_faul
 
 use qml_base::Place;
 use qml_text::NoMemory;
-use std::alloc::AllocFailed;
 
 /// What is wrong at the place where bytes are not read.
 #[derive(Clone, Copy, Debug, PartialEq, Eq)]
@@ -34,10 +33,10 @@ pub enum LexFault {
     NoMemory,
 }
 
-impl<T: Drop> From<AllocFailed<T>> for LexFault {
+impl From<NoMemory> for LexFault {
     ghost from_gives = { λ _ e. e ≡ lex_fault.NoMemory };
 
-    fn from(_error: AllocFailed<T>) -> LexFault {
+    fn from(_error: NoMemory) -> LexFault {
         LexFault::NoMemory
     }
 }

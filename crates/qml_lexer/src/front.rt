@@ -1,29 +1,24 @@
-//! What begins at the front of a text.
+//! What stands at the front of a text.
 
-ghost use Rattle.std.specs.Prelude.{◌≡◌, ◌≢◌, ◌∷◌, MatchOption, false};
+ghost use Rattle.std.specs.Prelude.{◌≡◌, ◌≢◌, ◌∷◌, MatchOption, true, false};
 ghost use Rattle.std.specs.Str.{chars};
+ghost use Rattle.qml_lexer.specs.Characters as c;
 ghost use Rattle.qml_lexer.specs.Front as s;
-ghost use Rattle.qml_lexer.specs.Reading.{Gives};
+ghost use Rattle.qml_lexer.specs.Reading.{Puts};
 
 use crate::characters::{
-    Blanks, InLine, begins_with, behind_run, is_blank, is_quote, is_start, split_first_char,
+    Blanks, InLine, Parts, Plain, begins_with, behind_run, is_blank, is_quote, is_start,
+    split_first_char, split_run,
 };
 use crate::fault::{Fault, LexCause};
+use crate::found::{Piece, Spot, put};
 use crate::marks::mark;
-use crate::names::name;
+use crate::names::put_name;
 use crate::numbers::number;
 use crate::texts::body;
-use qml_syntax::TokenKind;
+use qml_syntax::{Token, TokenKind};
+use qml_text::Text;
 use std::alloc::Global;
-
-/// What stands at the front of a text.
-#[derive(Drop)]
-pub enum Item {
-    /// Blanks or a comment.
-    Gap,
-    /// A token of this kind.
-    Token(TokenKind),
-}
 
 /// What stands behind the end of a comment that was opened before the text.
 fn behind_comment(text: &str) -> Option<&str>
@@ -41,91 +36,146 @@ fn behind_comment(text: &str) -> Option<&str>
     None
 }
 
-/// The mark at the front.
+/// Puts the mark at the front.
 #[tactic(auto, unfolding(crate::specs::Front::marked))]
-fn marked(text: &str) -> Result<(Item, &str), Fault>
-    ensures { Gives result (s.marked (chars text.now)) }
+fn marked<'a>(text: &'a str, spot: Spot, found: &mut Vec<Token>) -> Result<(Piece, &'a str), Fault>
+    ensures { Puts spot found.old.items found.new.items result (s.marked (chars text.now)) }
 {
     match mark(text) {
-        Some((found, behind)) => Ok((Item::Token(TokenKind::Mark(found)), behind)),
+        Some((what, behind)) => {
+            put(found, spot, TokenKind::Mark(what))?;
+            Ok((Piece::Token, behind))
+        }
         None => Err(Fault::Bad(LexCause::Character)),
     }
 }
 
-/// The comment, or the mark, that begins with the slash at the front of `text`, behind which `behind` stands.
+/// Reads the comment, or puts the mark, that begins with the slash at the front of `text`, behind which `behind` stands.
 #[tactic(auto, unfolding(crate::specs::Front::slash))]
-fn slash<'a>(text: &'a str, behind: &'a str) -> Result<(Item, &'a str), Fault>
+fn slash<'a>(
+    text: &'a str,
+    behind: &'a str,
+    spot: Spot,
+    found: &mut Vec<Token>,
+) -> Result<(Piece, &'a str), Fault>
     requires { chars text.now ≡ 47 ∷ chars behind.now }
-    ensures { Gives result (s.slash (chars behind.now)) }
+    ensures { Puts spot found.old.items found.new.items result (s.slash (chars behind.now)) }
 {
     if begins_with(behind, '/') {
-        return Ok((Item::Gap, behind_run(behind, &InLine)));
+        return Ok((Piece::Gap, behind_run(behind, &InLine)));
     }
     match split_first_char(behind) {
         Some(('*', opened)) => match behind_comment(opened) {
-            Some(rest) => Ok((Item::Gap, rest)),
+            Some(rest) => Ok((Piece::Gap, rest)),
             None => Err(Fault::Bad(LexCause::OpenComment)),
         },
-        _ => marked(text),
+        _ => marked(text, spot, found),
     }
 }
 
-/// The text that begins with a quote in front of `behind`.
+/// Puts the text that begins with a quote in front of `behind`, and that may have escapes.
 #[tactic(auto, unfolding(crate::specs::Front::quoted))]
-fn quoted(alloc: Global, quote: char, behind: &str) -> Result<(Item, &str), Fault>
+fn quoted_with_escapes<'a>(
+    alloc: Global,
+    quote: char,
+    behind: &'a str,
+    spot: Spot,
+    found: &mut Vec<Token>,
+) -> Result<(Piece, &'a str), Fault>
     requires { quote ≢ 92 }
-    ensures { Gives result (s.quoted quote (chars behind.now)) }
+    ensures { Puts spot found.old.items found.new.items result (s.quoted quote (chars behind.now)) }
 {
     match body(alloc, quote, behind) {
-        Ok((units, rest)) => Ok((Item::Token(TokenKind::Text(units)), rest)),
+        Ok((units, rest)) => {
+            put(found, spot, TokenKind::Text(units))?;
+            Ok((Piece::Token, rest))
+        }
         Err(fault) => Err(fault),
     }
 }
 
-/// The name or reserved word at the front.
-#[tactic(auto, unfolding(crate::specs::Front::named))]
-fn named(alloc: Global, text: &str) -> Result<(Item, &str), Fault>
-    ensures { Gives result (s.named (chars text.now)) }
+/// Puts the text that begins with a quote in front of `behind`.
+fn quoted<'a>(
+    alloc: Global,
+    quote: char,
+    behind: &'a str,
+    spot: Spot,
+    found: &mut Vec<Token>,
+) -> Result<(Piece, &'a str), Fault>
+    requires { c.is_quote quote ≡ true }
+    ensures { Puts spot found.old.items found.new.items result (s.quoted quote (chars behind.now)) }
 {
-    match name(alloc, text) {
-        Ok((kind, rest)) => Ok((Item::Token(kind), rest)),
-        Err(fault) => Err(fault),
+    let (plain, rest) = split_run(behind, &Plain);
+    match split_first_char(rest) {
+        Some((first, after)) if first == quote => {
+            let units = Text::from_str(alloc, plain)?;
+            put(found, spot, TokenKind::Text(units))?;
+            Ok((Piece::Token, after))
+        }
+        _ => quoted_with_escapes(alloc, quote, behind, spot, found),
     }
 }
 
-/// The number or version at the front.
+/// Puts the name or reserved word at the front.
+fn named<'a>(
+    alloc: Global,
+    text: &'a str,
+    spot: Spot,
+    found: &mut Vec<Token>,
+) -> Result<(Piece, &'a str), Fault>
+    ensures { Puts spot found.old.items found.new.items result (s.named (chars text.now)) }
+{
+    let (spelt, rest) = split_run(text, &Parts);
+    put_name(alloc, spelt, spot, found)?;
+    Ok((Piece::Token, rest))
+}
+
+/// Puts the number or version at the front.
 #[tactic(auto, unfolding(crate::specs::Front::numbered))]
-fn numbered(text: &str) -> Result<(Item, &str), Fault>
-    ensures { Gives result (s.numbered (chars text.now)) }
+fn numbered<'a>(
+    text: &'a str,
+    spot: Spot,
+    found: &mut Vec<Token>,
+) -> Result<(Piece, &'a str), Fault>
+    ensures { Puts spot found.old.items found.new.items result (s.numbered (chars text.now)) }
 {
     match number(text) {
-        Ok((kind, rest)) => Ok((Item::Token(kind), rest)),
+        Ok((what, rest)) => {
+            put(found, spot, what)?;
+            Ok((Piece::Token, rest))
+        }
         Err(cause) => Err(Fault::Bad(cause)),
     }
 }
 
-/// What stands at the front of a text that isn't at its end, and what stands behind it.
+/// Reads what stands at the front of a text that isn't at its end. Where it is a token, it is put behind those found
+/// before. Answers what stands behind it.
 #[tactic(auto, unfolding(crate::specs::Front::front))]
-pub fn front(alloc: Global, text: &str) -> Result<(Item, &str), Fault>
-    ensures { Gives result (s.front (chars text.now)) }
+pub fn front<'a>(
+    alloc: Global,
+    text: &'a str,
+    spot: Spot,
+    found: &mut Vec<Token>,
+) -> Result<(Piece, &'a str), Fault>
+    ensures { Puts spot found.old.items found.new.items result (s.front (chars text.now)) }
 {
     let Some((first, behind)) = split_first_char(text) else {
         return Err(Fault::Bad(LexCause::Character));
     };
     if is_blank(first) {
-        return Ok((Item::Gap, behind_run(behind, &Blanks)));
+        return Ok((Piece::Gap, behind_run(behind, &Blanks)));
     }
     if first == '/' {
-        return slash(text, behind);
+        return slash(text, behind, spot, found);
     }
     if is_quote(first) {
-        return quoted(alloc, first, behind);
+        return quoted(alloc, first, behind, spot, found);
     }
     if first.is_digit(10) {
-        return numbered(text);
+        return numbered(text, spot, found);
     }
     if is_start(first) {
-        return named(alloc, text);
+        return named(alloc, text, spot, found);
     }
-    marked(text)
+    marked(text, spot, found)
 }

@@ -9,7 +9,8 @@ ghost use Rattle.qml_lexer.specs.Places.{body_of};
 
 use crate::characters::split_first_char;
 use crate::fault::{Fault, LexCause, LexFault};
-use crate::front::{Item, front};
+use crate::found::{Piece, Spot, put};
+use crate::front::front;
 use crate::lines::{Line, MOST_BYTES, line_of};
 use qml_syntax::{Token, TokenKind};
 use std::alloc::Global;
@@ -35,14 +36,13 @@ fn without_mark(text: &str) -> &str
     }
 }
 
-/// The token of this kind at a cursor.
-fn token(what: TokenKind, cursor: Cursor) -> Token
+/// Where a token at a cursor begins.
+fn spot(cursor: Cursor) -> Spot
     requires start { cursor.line.start ≤ cursor.at }
     requires bound { cursor.at ≤ MOST_BYTES }
-    ensures { result ≡ s.token what cursor }
+    ensures { result ≡ s.spot cursor }
 {
-    Token {
-        what,
+    Spot {
         place: cursor.line.place(cursor.at),
         after_line: cursor.token_end < cursor.line.start,
     }
@@ -63,31 +63,22 @@ fn turn<'a>(
     requires line { s.IsAt body.now cursor }
     ensures { Turns body.now rest.now cursor found.old.items found.new.items result }
 {
-    match front(alloc, rest) {
-        Ok((item, behind)) => {
+    match front(alloc, rest, spot(cursor), found) {
+        Ok((piece, behind)) => {
             let at = body.len() - behind.len();
             let line = line_of(body.as_bytes(), cursor.line, cursor.at, at);
-            match item {
-                Item::Gap => Ok((
-                    Cursor {
-                        at,
-                        token_end: cursor.token_end,
-                        line,
-                    },
-                    behind,
-                )),
-                Item::Token(what) => {
-                    found.push(token(what, cursor))?;
-                    Ok((
-                        Cursor {
-                            at,
-                            token_end: at,
-                            line,
-                        },
-                        behind,
-                    ))
-                }
-            }
+            let token_end = match piece {
+                Piece::Gap => cursor.token_end,
+                Piece::Token => at,
+            };
+            Ok((
+                Cursor {
+                    at,
+                    token_end,
+                    line,
+                },
+                behind,
+            ))
         }
         Err(Fault::NoMemory) => Err(LexFault::NoMemory),
         Err(Fault::Bad(cause)) => Err(LexFault::Bad {
@@ -120,7 +111,8 @@ fn lex_body(alloc: Global, body: &str) -> Result<Vec<Token>, LexFault>
         cursor = next;
         rest = behind;
     }
-    found.push(token(TokenKind::End, cursor))?;
+    put(&mut found, spot(cursor), TokenKind::End)?;
+    found.shrink_to_fit();
     Ok(found)
 }
 

@@ -9,6 +9,7 @@
 
 mod characters;
 mod fault;
+mod found;
 mod front;
 mod laws;
 mod lexer;

@@ -1,6 +1,6 @@
 //! Marks.
 
-ghost use Rattle.std.specs.Prelude.{◌≡◌, MatchOption, Some, None};
+ghost use Rattle.std.specs.Prelude.{◌≡◌, ℕ, List, ◌∷◌, MatchOption, Some, None};
 ghost use Rattle.std.specs.Str.{chars};
 ghost use Rattle.qml_lexer.specs.Marks as s;
 ghost use Rattle.qml_lexer.specs.Reading.{GivesPart};
@@ -60,6 +60,24 @@ pub const MARKS: [Mark; 50] = [
     Mark::Percent,
     Mark::BitXorAssign,
     Mark::BitXor,
+];
+
+/// The marks that begin with `<`, each before those that begin it.
+pub const MARKS_FROM_LESS: [Mark; 4] = [
+    Mark::ShiftLeftAssign,
+    Mark::LessEqual,
+    Mark::ShiftLeft,
+    Mark::Less,
+];
+
+/// The marks that begin with `>`, each before those that begin it.
+pub const MARKS_FROM_GREATER: [Mark; 6] = [
+    Mark::ShiftRightUnsignedAssign,
+    Mark::ShiftRightUnsigned,
+    Mark::ShiftRightAssign,
+    Mark::GreaterEqual,
+    Mark::ShiftRight,
+    Mark::Greater,
 ];
 
 /// How a mark is written.
@@ -147,10 +165,45 @@ fn first_of<'a>(marks: &[Mark], text: &'a str) -> Option<(Mark, &'a str)>
     None
 }
 
+/// The marks among which one that begins with this character has to be looked for.
+#[tactic(auto, using(crate::proofs::FirstLemmas::marks_by_first))]
+fn marks_from(first: char) -> &'static [Mark]
+    ensures { (xs : List ℕ) → s.first_of result.now (first ∷ xs) ≡ s.first_of MARKS (first ∷ xs) }
+{
+    match first {
+        ':' => &[Mark::Colon],
+        '.' => &[Mark::Dot],
+        '(' => &[Mark::LeftParen],
+        ')' => &[Mark::RightParen],
+        '{' => &[Mark::LeftBrace],
+        '}' => &[Mark::RightBrace],
+        ';' => &[Mark::Semicolon],
+        ',' => &[Mark::Comma],
+        '[' => &[Mark::LeftBracket],
+        ']' => &[Mark::RightBracket],
+        '~' => &[Mark::BitNot],
+        '-' => &[Mark::Decrement, Mark::MinusAssign, Mark::Minus],
+        '+' => &[Mark::Increment, Mark::PlusAssign, Mark::Plus],
+        '*' => &[Mark::StarAssign, Mark::Star],
+        '/' => &[Mark::SlashAssign, Mark::Slash],
+        '=' => &[Mark::StrictEqual, Mark::Equal, Mark::Arrow, Mark::Assign],
+        '<' => &MARKS_FROM_LESS,
+        '>' => &MARKS_FROM_GREATER,
+        '!' => &[Mark::StrictNotEqual, Mark::NotEqual, Mark::Not],
+        '&' => &[Mark::And, Mark::BitAndAssign, Mark::BitAnd],
+        '|' => &[Mark::Or, Mark::BitOrAssign, Mark::BitOr],
+        '?' => &[Mark::Coalesce, Mark::Question],
+        '%' => &[Mark::PercentAssign, Mark::Percent],
+        '^' => &[Mark::BitXorAssign, Mark::BitXor],
+        _ => &MARKS,
+    }
+}
+
 /// The longest mark that stands at the front, and what stands behind it.
 #[tactic(auto, unfolding(crate::specs::Marks::mark))]
 pub fn mark(text: &str) -> Option<(Mark, &str)>
     ensures { GivesPart result (s.mark (chars text.now)) }
 {
-    first_of(&MARKS, text)
+    let (first, _) = split_first_char(text)?;
+    first_of(marks_from(first), text)
 }

@@ -1,14 +1,12 @@
 //! Names and reserved words.
 
-ghost use Rattle.std.specs.Prelude.{◌≡◌, IfOk, List, ℕ, length};
+ghost use Rattle.std.specs.Prelude.{◌≡◌, [], ◌∷◌, ◌++◌, OnOk, List, ℕ};
 ghost use Rattle.std.specs.Str.{chars};
-ghost use Rattle.qml_lexer.specs.Characters as c;
 ghost use Rattle.qml_lexer.specs.Names as s;
-ghost use Rattle.qml_lexer.specs.Reading.{Gives};
+ghost use Rattle.qml_lexer.specs.Reading.{token_on};
 
-use crate::characters::{Parts, behind_run};
-use crate::fault::Fault;
-use qml_syntax::{TokenKind, Word};
+use crate::found::{Spot, put};
+use qml_syntax::{Token, TokenKind, Word};
 use qml_text::{NoMemory, Text};
 use std::alloc::Global;
 
@@ -53,56 +51,6 @@ pub const WORDS: [Word; 38] = [
     Word::With,
     Word::Yield,
 ];
-
-/// The reserved words of two letters.
-pub const WORDS_OF_TWO: [Word; 3] = [Word::Do, Word::If, Word::In];
-
-/// The reserved words of three letters.
-pub const WORDS_OF_THREE: [Word; 5] = [Word::For, Word::Let, Word::New, Word::Try, Word::Var];
-
-/// The reserved words of four letters.
-pub const WORDS_OF_FOUR: [Word; 8] = [
-    Word::Case,
-    Word::Else,
-    Word::Enum,
-    Word::Null,
-    Word::This,
-    Word::True,
-    Word::Void,
-    Word::With,
-];
-
-/// The reserved words of five letters.
-pub const WORDS_OF_FIVE: [Word; 9] = [
-    Word::Break,
-    Word::Catch,
-    Word::Class,
-    Word::Const,
-    Word::False,
-    Word::Super,
-    Word::Throw,
-    Word::While,
-    Word::Yield,
-];
-
-/// The reserved words of six letters.
-pub const WORDS_OF_SIX: [Word; 6] = [
-    Word::Delete,
-    Word::Export,
-    Word::Import,
-    Word::Return,
-    Word::Switch,
-    Word::TypeOf,
-];
-
-/// The reserved words of seven letters.
-pub const WORDS_OF_SEVEN: [Word; 3] = [Word::Default, Word::Extends, Word::Finally];
-
-/// The reserved words of eight letters.
-pub const WORDS_OF_EIGHT: [Word; 3] = [Word::Continue, Word::Debugger, Word::Function];
-
-/// The reserved words of ten letters.
-pub const WORDS_OF_TEN: [Word; 1] = [Word::InstanceOf];
 
 /// How a reserved word is written.
 fn spelling(word: Word) -> &'static str
@@ -162,45 +110,58 @@ fn word_among(words: &[Word], name: &str) -> Option<Word>
     None
 }
 
-/// The reserved words among which a name of so many bytes has to be looked for.
-#[tactic(auto, using(crate::proofs::LengthLemmas::by_length))]
-fn words_of(len: usize) -> &'static [Word]
-    ensures { (bytes : List ℕ) → length bytes ≡ len → s.word_among result.now bytes ≡ s.word_among WORDS bytes }
+/// The reserved words among which a name that begins with this byte has to be looked for.
+#[tactic(auto, using(crate::proofs::FirstLemmas::words_by_first))]
+fn words_from(first: u8) -> &'static [Word]
+    ensures { (bytes : List ℕ) → s.word_among result.now (first ∷ bytes) ≡ s.word_among WORDS (first ∷ bytes) }
 {
-    if len < 2 || len > 10 {
-        return &[];
-    }
-    match len {
-        2 => &WORDS_OF_TWO,
-        3 => &WORDS_OF_THREE,
-        4 => &WORDS_OF_FOUR,
-        5 => &WORDS_OF_FIVE,
-        6 => &WORDS_OF_SIX,
-        7 => &WORDS_OF_SEVEN,
-        8 => &WORDS_OF_EIGHT,
-        10 => &WORDS_OF_TEN,
-        _ => &WORDS,
+    match first {
+        b'b' => &[Word::Break],
+        b'c' => &[
+            Word::Case,
+            Word::Catch,
+            Word::Class,
+            Word::Const,
+            Word::Continue,
+        ],
+        b'd' => &[Word::Debugger, Word::Default, Word::Delete, Word::Do],
+        b'e' => &[Word::Else, Word::Enum, Word::Export, Word::Extends],
+        b'f' => &[Word::False, Word::Finally, Word::For, Word::Function],
+        b'i' => &[Word::If, Word::Import, Word::In, Word::InstanceOf],
+        b'l' => &[Word::Let],
+        b'n' => &[Word::New, Word::Null],
+        b'r' => &[Word::Return],
+        b's' => &[Word::Super, Word::Switch],
+        b't' => &[Word::This, Word::Throw, Word::True, Word::Try, Word::TypeOf],
+        b'v' => &[Word::Var, Word::Void],
+        b'w' => &[Word::While, Word::With],
+        b'y' => &[Word::Yield],
+        _ => &[],
     }
 }
 
-/// What a name's spelling is: a reserved word, or a name.
-fn kind_of(alloc: Global, name: &str) -> Result<TokenKind, NoMemory>
-    ensures { IfOk result (λ kind. kind ≡ s.kind_of (chars name.now)) }
+/// The reserved word that is written so.
+fn word_of(name: &str) -> Option<Word>
+    ensures { result ≡ s.word_among WORDS name.now }
 {
-    match word_among(words_of(name.len()), name) {
-        Some(word) => Ok(TokenKind::Word(word)),
-        None => Ok(TokenKind::Name(Text::from_str(alloc, name)?)),
-    }
+    let first = name.as_bytes().first()?;
+    word_among(words_from(*first), name)
 }
 
-/// The name or reserved word at the front, and what stands behind it.
-#[tactic(auto, unfolding(crate::specs::Names::name))]
-pub fn name(alloc: Global, text: &str) -> Result<(TokenKind, &str), Fault>
-    ensures { Gives result (s.name (chars text.now)) }
+/// Puts the token that a name's spelling is: a reserved word, or a name.
+pub fn put_name(
+    alloc: Global,
+    spelt: &str,
+    spot: Spot,
+    found: &mut Vec<Token>,
+) -> Result<(), NoMemory>
+    ensures { OnOk result (found.new.items ≡ found.old.items ++ token_on spot (s.kind_of (chars spelt.now)) ∷ []) }
 {
-    let behind = behind_run(text, &Parts);
-    match kind_of(alloc, &text[..text.len() - behind.len()]) {
-        Ok(kind) => Ok((kind, behind)),
-        Err(NoMemory) => Err(Fault::NoMemory),
+    match word_of(spelt) {
+        Some(word) => put(found, spot, TokenKind::Word(word)),
+        None => {
+            let name = Text::from_str(alloc, spelt)?;
+            put(found, spot, TokenKind::Name(name))
+        }
     }
 }

@@ -1,8 +1,9 @@
 //! Tokens of examples, and each cause of a refusal at its place.
 
 use crate::{LexFault, lex};
-use qml_syntax::TokenKind;
+use qml_syntax::{Token, TokenKind};
 use std::alloc::Global;
+use std::mem::size_of;
 use std::test::Fail;
 
 /// The tokens in a short form: the kind and the place of each, with `/` before it where a line begins before it.
@@ -75,4 +76,9 @@ fn reads_kinds_and_places(rt: HostRuntime) -> Result<(), Fail> {
         "name 1:1 name 1:4 /mark 2:1 end 2:5 "
     );
     Ok(())
+}
+
+#[test]
+fn tokens_take_forty_bytes(rt: HostRuntime) {
+    assert_eq!(rt; size_of::<Token>(), 40);
 }

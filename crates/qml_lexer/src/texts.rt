@@ -8,7 +8,7 @@ ghost use Rattle.qml_lexer.specs.Reading.{GivesPart, Gives};
 use crate::characters::{is_line_end, split_first_char};
 use crate::fault::{Fault, LexCause};
 use crate::numbers::first_digit;
-use qml_text::Text;
+use qml_text::{Text, TextBuilder};
 use std::alloc::Global;
 
 /// The unit that a single character stands for behind a backslash.
@@ -75,11 +75,11 @@ pub fn body(alloc: Global, quote: char, text: &str) -> Result<(Text, &str), Faul
     requires { quote ≢ 92 }
     ensures { Gives result (s.body quote (chars text.now)) }
 {
-    let mut units = Text::new(alloc);
+    let mut units = TextBuilder::new(alloc);
     let mut rest = text;
     while let Some((first, behind)) = split_first_char(rest) {
         if first == quote {
-            return Ok((units, behind));
+            return Ok((units.finish(alloc)?, behind));
         }
         if is_line_end(first) {
             return Err(Fault::Bad(LexCause::OpenText));

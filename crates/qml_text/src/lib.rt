@@ -4,14 +4,17 @@
 //! at a separator and how parts are joined (`specs/Parts.antt`). Want of memory is the only free answer.
 #![tactic(auto)]
 
+mod building;
 mod fault;
 mod laws;
 mod parts;
+mod store;
 #[cfg(test)]
 mod tests;
 mod text;
 mod utf;
 
+pub use building::TextBuilder;
 pub use fault::{NoMemory, TextFault};
 pub use laws::{joins_what_it_cuts, one_way_to_cut};
 pub use text::Text;

@@ -3,6 +3,7 @@
 ghost use Rattle.std.specs.Prelude.{◌≡◌, ◌+◌, ◌-◌, ◌<◌, ◌≤◌, ◌^◌, [], ◌∷◌, ◌++◌, length, map, slice_range, ◌↔◌, IsTrue, IfOk, MatchOption};
 ghost use Rattle.qml_text.specs.Parts.{StandsAt, StandsFirstAt, StandsNowhere, IsSplit, join_of};
 
+use crate::building::TextBuilder;
 use crate::fault::NoMemory;
 use crate::text::Text;
 use std::alloc::Global;
@@ -12,7 +13,10 @@ fn stands_at(part: &[u16], text: &[u16], at: usize) -> bool
     requires { at + length part.now ≤ length text.now }
     ensures { IsTrue result ↔ StandsAt part.now text.now at }
 {
-    &text[at..at + part.len()] == part
+    match part.first() {
+        Some(first) => text[at] == *first && &text[at..at + part.len()] == part,
+        None => true,
+    }
 }
 
 /// The least place from `from` on at which `part` stands in `text`.
@@ -39,9 +43,7 @@ fn single_units(alloc: Global, units: &[u16]) -> Result<Vec<Text>, NoMemory>
 {
     let mut parts = Vec::with_capacity(alloc, units.len())?;
     for unit in units {
-        let mut part = Text::new(alloc);
-        part.push_unit(*unit)?;
-        parts.push(part)?;
+        parts.push(Text::from_slice(alloc, &[*unit])?)?;
     }
     Ok(parts)
 }
@@ -79,13 +81,14 @@ impl Text {
         ensures { IfOk result (λ t. t ≡ join_of between.now parts.now) }
     {
         let Some((first, rest)) = parts.split_first() else {
-            return Ok(Text::new(alloc));
+            return Ok(Text::new());
         };
-        let mut joined = first.copy(alloc)?;
+        let mut joined = TextBuilder::new(alloc);
+        joined.append(first)?;
         for part in rest {
             joined.append(between)?;
             joined.append(part)?;
         }
-        Ok(joined)
+        joined.finish(alloc)
     }
 }

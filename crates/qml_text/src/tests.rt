@@ -1,7 +1,8 @@
 //! Each call once where it succeeds, by examples of ECMA-262 and of the Unicode Standard.
 
-use crate::{Text, TextFault};
+use crate::{Text, TextBuilder, TextFault};
 use std::alloc::Global;
+use std::mem::size_of;
 use std::test::Fail;
 
 fn text(alloc: Global, bytes: &[u8]) -> Result<Text, TextFault> {
@@ -32,18 +33,48 @@ fn cuts_and_joins(rt: HostRuntime) -> Result<(), Fail> {
     let parts = whole.split(alloc, &by)?;
     assert_eq!(rt; parts.len(), 3);
     assert!(rt; Text::join(alloc, &parts, &by)?.same(&whole));
-    assert_eq!(rt; whole.split(alloc, &Text::new(alloc))?.len(), 6);
+    assert_eq!(rt; whole.split(alloc, &Text::new())?.len(), 6);
     Ok(())
 }
 
 #[test]
 fn grows(rt: HostRuntime) -> Result<(), Fail> {
     let alloc = rt.alloc();
-    let mut number = Text::of_number(alloc, i64::MIN)?;
+    let number = Text::of_number(alloc, i64::MIN)?;
     assert!(rt; number.same(&text(alloc, b"-9223372036854775808")?));
-    number.push_unit(0x30)?;
-    number.push_char('1')?;
-    number.append(&text(alloc, b"2")?)?;
-    assert!(rt; number.same(&text(alloc, b"-9223372036854775808012")?));
+    let mut longer = TextBuilder::new(alloc);
+    longer.append(&number)?;
+    longer.push_unit(0x30)?;
+    longer.push_char('1')?;
+    longer.append(&text(alloc, b"2")?)?;
+    assert_eq!(rt; longer.len(), 23);
+    let longer = longer.finish(alloc)?;
+    assert!(rt; longer.same(&text(alloc, b"-9223372036854775808012")?));
     Ok(())
+}
+
+#[test]
+fn keeps_few_and_many_units(rt: HostRuntime) -> Result<(), Fail> {
+    let alloc = rt.alloc();
+    let parts: [&[u8]; 5] = [
+        b"",
+        b"seven u",
+        b"eight un",
+        b"twelve units",
+        b"thirteen unit",
+    ];
+    for bytes in &parts {
+        let whole = Text::from_latin1(alloc, bytes)?;
+        assert_eq!(rt; whole.len(), bytes.len());
+        assert!(rt; whole.same(&text(alloc, bytes)?));
+        let mut units = Vec::new(alloc);
+        units.extend_from_slice(whole.units())?;
+        assert!(rt; Text::from_units(alloc, units)?.same(&whole));
+    }
+    Ok(())
+}
+
+#[test]
+fn takes_sixteen_bytes(rt: HostRuntime) {
+    assert_eq!(rt; size_of::<Text>(), 16);
 }

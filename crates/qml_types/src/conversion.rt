@@ -1,6 +1,6 @@
 //! Converting a value to a property's kind.
 
-ghost use Rattle.std.specs.Prelude.{◌≡◌, [], IfOk};
+ghost use Rattle.std.specs.Prelude.{◌≡◌, []};
 ghost use Rattle.qml_value.specs.Kinds.{kind_of};
 ghost use Rattle.qml_types.specs.Conversion.{IsConverted, default_of as default_value};
 ghost use Rattle.qml_types.specs.declared.conversion.ConvertFault.TheVariants as fault;
@@ -60,7 +60,7 @@ pub fn default_of(alloc: Global, kind: &PropKind) -> Value
 {
     match kind {
         PropKind::Int | PropKind::Real | PropKind::Double => Value::Num(Num::small(0)),
-        PropKind::String | PropKind::Url | PropKind::Color => Value::Text(Text::new(alloc)),
+        PropKind::String | PropKind::Url | PropKind::Color => Value::Text(Text::new()),
         PropKind::Bool => Value::Bool(false),
         PropKind::Var | PropKind::Variant => Value::Undefined,
         PropKind::Object(_) | PropKind::Component => Value::Null,
@@ -92,8 +92,8 @@ fn to_text(alloc: Global, value: Value) -> Result<Value, ConvertFault>
     match &value {
         Value::Text(_) => Ok(value),
         Value::Num(number) => Ok(Value::Text(Text::of_number(alloc, number.get())?)),
-        Value::Bool(true) => Ok(Value::Text(of_ascii(alloc, b"true")?)),
-        Value::Bool(false) => Ok(Value::Text(of_ascii(alloc, b"false")?)),
+        Value::Bool(true) => Ok(Value::Text(Text::from_latin1(alloc, b"true")?)),
+        Value::Bool(false) => Ok(Value::Text(Text::from_latin1(alloc, b"false")?)),
         _ => Err(refusal(&value)),
     }
 }
@@ -130,15 +130,4 @@ fn to_component(value: Value) -> Result<Value, ConvertFault>
         Value::Null | Value::Component(_) => Ok(value),
         _ => Err(refusal(&value)),
     }
-}
-
-/// The text of these bytes, which are ASCII.
-fn of_ascii(alloc: Global, bytes: &[u8]) -> Result<Text, NoMemory>
-    ensures { IfOk result (λ text. text ≡ bytes.now) }
-{
-    let mut text = Text::new(alloc);
-    'bytes: for byte in bytes {
-        text.push_unit(u16::from(*byte))?;
-    }
-    Ok(text)
 }

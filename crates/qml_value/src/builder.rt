@@ -70,7 +70,7 @@ impl FieldsBuilder {
         let mut rest = entries.into_iter();
         'fields: while let Some(pair) = rest.next() {
             let (units, value) = pair;
-            let name = Text::from_units(units);
+            let name = Text::from_units(alloc, units)?;
             parts.push(Field { name, value })?;
         }
         Ok(Row::of_vec(parts))

@@ -34,7 +34,7 @@ fn long(alloc: Global, units: usize) -> Result<Value, Fail> {
     for _ in 0..units {
         letters.push(0x61)?;
     }
-    Ok(Value::Text(Text::from_units(letters)))
+    Ok(Value::Text(Text::from_units(alloc, letters)?))
 }
 
 #[test]

@@ -8,7 +8,7 @@ ghost use Rattle.qml_value.specs.declared.text.TextOfFault.TheVariants as fault;
 
 use crate::value::Value;
 use qml_base::ObjNo;
-use qml_text::{NoMemory, Text};
+use qml_text::{NoMemory, Text, TextBuilder};
 use std::alloc::Global;
 
 /// The most units of a text that is not too heavy: it weighs one more.
@@ -38,14 +38,14 @@ impl Value {
     pub fn text_of(&self, alloc: Global) -> Result<Text, TextOfFault>
         ensures { IsTextOf self.now result }
     {
-        let mut text = Text::new(alloc);
+        let mut text = TextBuilder::new(alloc);
         self.write_text(alloc, &mut text)?;
-        Ok(text)
+        Ok(text.finish(alloc)?)
     }
 
     /// Writes its text at the end of `text`.
     #[cycle(writing)]
-    fn write_text(&self, alloc: Global, text: &mut Text) -> Result<(), TextOfFault>
+    fn write_text(&self, alloc: Global, text: &mut TextBuilder) -> Result<(), TextOfFault>
         requires { 1 + length text.old ≤ 1048576 }
         ensures { Writes text.old (text_of self.now) text.new result }
     {
@@ -65,7 +65,7 @@ impl Value {
 
     /// Writes the text that it has as an element of a list.
     #[cycle(writing)]
-    fn write_element(&self, alloc: Global, text: &mut Text) -> Result<(), TextOfFault>
+    fn write_element(&self, alloc: Global, text: &mut TextBuilder) -> Result<(), TextOfFault>
         requires { 1 + length text.old ≤ 1048576 }
         ensures { Writes text.old (element_text self.now) text.new result }
     {
@@ -77,7 +77,7 @@ impl Value {
 
     /// Writes a comma and the text that it has as an element of a list.
     #[cycle(writing)]
-    fn write_next_element(&self, alloc: Global, text: &mut Text) -> Result<(), TextOfFault>
+    fn write_next_element(&self, alloc: Global, text: &mut TextBuilder) -> Result<(), TextOfFault>
         requires { 1 + length text.old ≤ 1048576 }
         ensures { Writes text.old (next_element_text self.now) text.new result }
     {
@@ -88,7 +88,11 @@ impl Value {
 
 /// Writes the texts of a list's elements, a comma between two.
 #[cycle(writing)]
-fn write_elements(values: &[Value], alloc: Global, text: &mut Text) -> Result<(), TextOfFault>
+fn write_elements(
+    values: &[Value],
+    alloc: Global,
+    text: &mut TextBuilder,
+) -> Result<(), TextOfFault>
     requires { 1 + length text.old ≤ 1048576 }
     ensures { Writes text.old (join_of (codes ",") (map element_text values.now)) text.new result }
 {
@@ -103,7 +107,7 @@ fn write_elements(values: &[Value], alloc: Global, text: &mut Text) -> Result<()
 }
 
 /// Writes `more`.
-fn write(text: &mut Text, more: &Text) -> Result<(), TextOfFault>
+fn write(text: &mut TextBuilder, more: &Text) -> Result<(), TextOfFault>
     requires { 1 + length text.old ≤ 1048576 }
     ensures { Writes text.old more.now text.new result }
 {
@@ -115,7 +119,7 @@ fn write(text: &mut Text, more: &Text) -> Result<(), TextOfFault>
 }
 
 /// Writes the characters of these bytes, which are ASCII.
-fn write_ascii(text: &mut Text, bytes: &[u8]) -> Result<(), TextOfFault>
+fn write_ascii(text: &mut TextBuilder, bytes: &[u8]) -> Result<(), TextOfFault>
     requires { 1 + length text.old ≤ 1048576 }
     ensures { Writes text.old bytes.now text.new result }
 {
@@ -133,7 +137,7 @@ fn write_number(
     mark: &[u8],
     number: ObjNo,
     alloc: Global,
-    text: &mut Text,
+    text: &mut TextBuilder,
 ) -> Result<(), TextOfFault>
     requires { 1 + length text.old ≤ 1048576 }
     ensures { Writes text.old (mark.now ++ decimal number.0) text.new result }

@@ -1,30 +1,27 @@
-use Rattle.std.proofs.Common.{◌∙◌, arith, rules, refl}
-use Rattle.std.specs.Str.{chars}
-use Rattle.qml_lexer.proofs.LeadLemmas.{taken_off, gap_turn, token_turn, token_is, stuck}
+use Rattle.std.proofs.Common.{◌-◌, sym, arith, subst, refl, rules, length}
+use Rattle.qml_lexer.specs.declared.found.Piece.{Piece}
+use Rattle.qml_lexer.specs.declared.lexer.Cursor.{Cursor}
+use Rattle.qml_lexer.proofs.LeadLemmas.{Ends, shorter, leads_on, stuck}
+use Rattle.qml_lexer.proofs.lexer.turn.Goals.{in-Gap, in-Token}
 use Rattle.qml_lexer.proofs.lexer.turn.Goals as goal
 
 pub overflow_sub-at : goal.overflow_sub-at
-overflow_sub-at c = let t = taken_off c.args.rest.now c.in-Ok.behind.now c.in-Ok.item c.utf8.rest (search rules) c.in-Ok.ensures in omega (arith, t.bytes)
+overflow_sub-at c = let s = shorter _ _ _ _ c.args.rest.now c.in-Ok.behind.now c.utf8.rest (search rules) c.in-Ok.ensures in omega arith
 
 pub line_of-line-requires-clause-ordered : goal.line_of-line-requires-clause-ordered
-line_of-line-requires-clause-ordered c = let t = taken_off c.args.rest.now c.in-Ok.behind.now c.in-Ok.item c.utf8.rest (search rules) c.in-Ok.ensures in omega (arith, t.bytes)
+line_of-line-requires-clause-ordered c = let s = shorter _ _ _ _ c.args.rest.now c.in-Ok.behind.now c.utf8.rest (search rules) c.in-Ok.ensures in omega arith
 
-pub returns-in-Gap : goal.returns-in-Gap
-returns-in-Gap c =
-    let t = taken_off c.args.rest.now c.in-Ok.behind.now c.in-Ok.item c.utf8.rest (search rules) c.in-Ok.ensures in (
-      gap_turn c.args.body.now c.args.cursor _ (chars c.args.rest.now) t.w (chars c.in-Ok.behind.now) c.in-Ok.item c.args.found.now.items t.cut t.takes c.in-Gap.is (omega (arith, t.bytes)) refl,
+pub returns-after-piece : goal.returns-after-piece
+returns-after-piece c =
+    let s = shorter _ _ _ _ c.args.rest.now c.in-Ok.behind.now c.utf8.rest (search rules) c.in-Ok.ensures in
+    let next : Cursor = record { at = length c.args.body.now - length c.in-Ok.behind.now; token_end = c.match-piece.token_end; line = c.line_of-line.result } in
+    let P : Piece → Type 0 = λ z. Ends z c.args.cursor next in
+    let ends : Ends c.in-Ok.piece c.args.cursor next = elim c.match-piece.branch [ in-Gap w ↦ subst P (sym w.in-Gap.is) w.token_end-is | in-Token w ↦ subst P (sym w.in-Token.is) w.token_end-is ] in (
+      leads_on c.args.body.now c.args.cursor next c.spot.result c.in-Ok.piece c.args.found.now.items c.front.new.found.items c.args.rest.now c.in-Ok.behind.now c.utf8.rest (search rules)
+          c.in-Ok.ensures c.spot.ensures c.requires.line c.requires.here (omega arith) ends,
       (rw c.as_bytes.ensures.value at c.line_of-line.ensures),
-      omega (arith, t.bytes),
-      omega (arith, t.bytes, t.some),
-    )
-
-pub returns-in_ok-push-in-Token : goal.returns-in_ok-push-in-Token
-returns-in_ok-push-in-Token c =
-    let t = taken_off c.args.rest.now c.in-Ok.behind.now c.in-Ok.item c.utf8.rest (search rules) c.in-Ok.ensures in (
-      token_turn c.args.body.now c.args.cursor _ (chars c.args.rest.now) t.w (chars c.in-Ok.behind.now) c.in-Ok.item c.in-Token.what c.args.found.now.items c.push.new.self.items c.token.result t.cut t.takes c.in-Token.is (omega (arith, t.bytes)) (omega (arith, t.bytes)) (c.token.ensures ∙ token_is c.args.body.now c.args.cursor c.in-Token.what c.requires.line) c.in_ok-push-in-Token.ensures.items,
-      (rw c.as_bytes.ensures.value at c.line_of-line.ensures),
-      omega (arith, t.bytes),
-      omega (arith, t.bytes, t.some),
+      omega arith,
+      s,
     )
 
 pub returns-in-Err-Bad : goal.returns-in-Err-Bad

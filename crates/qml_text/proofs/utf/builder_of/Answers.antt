@@ -3,7 +3,7 @@ use Rattle.std.specs.Str.{chars}
 use Rattle.std.specs.declared.str.Chars.{Chars}
 use Rattle.std.proofs.lemmas.Str.{Chars-Drains, encodes-chars}
 use Rattle.qml_text.specs.Utf.{encode_utf16_all}
-use Rattle.qml_text.proofs.text.Text.from_str.Goals as goal
+use Rattle.qml_text.proofs.utf.builder_of.Goals as goal
 
 pub returns : goal.returns
 returns c =
