@@ -1,14 +1,22 @@
-//! Reading expressions, statements and bodies a token at a time, with what is open on a stack of its own. The definitions
-//! of `specs/` say what is open (`Frames`), what each token does (`Machine`), and what reading at the front of some tokens
-//! has to answer (`Answer`, `Front`); the laws that the machine gives exactly that answer, by the grammar of `Reads`, are
-//! the contracts of the calls in `laws`.
+//! Reading expressions, statements and bodies. The machine that reads a token at a time, its definitions and laws stand in
+//! `js_machine`; here its states are moved, over nodes in a table and frames on a stack, so that nothing recurses. The
+//! three entries answer exactly by the grammar: the tree of the longest front that some tree goes on with, or why there is
+//! none.
 #![tactic(auto)]
 
+mod begin;
+mod behind;
 mod close;
-mod fault;
-pub mod laws;
+mod closing;
+mod did;
+mod finish;
+mod header;
+mod line_end;
+mod names;
 mod need;
-mod open;
-mod stack;
+mod parse;
+mod read;
+mod step;
 
-pub use fault::ParseFault;
+pub use js_machine::ParseFault;
+pub use parse::{parse_body, parse_expr, parse_statement};

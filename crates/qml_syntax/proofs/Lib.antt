@@ -1,3 +1,14 @@
 pub mod FlatLemmas
-pub mod NodesLemmas
 pub mod DepthLemmas
+pub mod ListedLemmas
+pub mod MadeLemmas
+pub mod PartsLemmas
+pub mod WholeLemmas
+pub mod OneLevelLemmas
+pub mod TakenLemmas
+pub mod PositionLemmas
+pub mod RootLemmas
+pub mod GatherLemmas
+pub mod WalkHeadLemmas
+pub mod WalkFlatLemmas
+pub mod WalkStandingLemmas

@@ -2,7 +2,7 @@
 -- its own, a chain of operators of one level is one node, and the function of a `Qt.binding` is a node.
 use Rattle.std.specs.Prelude.{ℕ, ◌+◌, Option, Some, None, nat_lt, if◌then◌else◌}
 use Rattle.qml_base.specs.declared.numbers.Place.{Place}
-use Rattle.qml_syntax.specs.Tree.{Expr, name, number, text, literal, paren, list, fields, steps, bumped, signed, chain, choose, assign, Exprs, no_exprs, an_expr, Fields, no_fields, a_field, Step, member, element, call, binding, Steps, no_steps, a_step, Links, no_links, a_link, Choices, no_choices, a_choice, Targets, no_targets, a_target, Stmt, empty, expr, block, declare, when, either, while, for, give, stop, again, Stmts, no_stmts, a_stmt, Vars, last_var, a_var, Maybe, nothing, just, First, no_first, first_expr, first_declare}
+use Rattle.qml_syntax.specs.Tree.{Expr, name, number, text, literal, paren, list, fields, steps, bumped, signed, chain, choose, assign, Exprs, no_exprs, an_expr, Fields, no_fields, a_field, Step, member, element, call, binding, Steps, no_steps, a_step, Links, no_links, a_link, Choices, no_choices, a_choice, Targets, no_targets, a_target, Stmt, empty, expr, block, declare, when, either, while, for, give, stop, again, Stmts, no_stmts, a_stmt, Vars, last_var, a_var, Maybe, nothing, just, First, no_first, first_expr, first_declare, Whole, whole_expr, whole_stmt, whole_body}
 
 abbrev pub Found : Type 0
 Found = Option Place
@@ -118,3 +118,9 @@ abbrev mutual
   deep_first d no_first = None
   deep_first d (first_expr e) = deep d e
   deep_first d (first_declare p q vs) = if nat_lt 100 d then Some p else deep_vars (d + 1) vs
+
+-- where a node stands deeper than 100; an expression, a statement and each statement of a list has depth 1
+abbrev pub deep_whole : Whole → Found
+deep_whole (whole_expr e) = deep 1 e
+deep_whole (whole_stmt s) = deep_stmt 1 s
+deep_whole (whole_body ss) = deep_stmts 1 ss

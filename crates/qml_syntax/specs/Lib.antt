@@ -8,3 +8,10 @@ pub mod Nodes
 pub mod Flat
 pub mod Depth
 pub mod Standing
+pub mod Listed
+pub mod Opened
+pub mod Starts
+pub mod Taken
+pub mod WalkFlat
+pub mod WalkStanding
+pub mod Kinds

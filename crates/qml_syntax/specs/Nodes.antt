@@ -8,7 +8,7 @@ use Rattle.qml_syntax.specs.declared.node.Close as code
 use Rattle.qml_syntax.specs.declared.node.Close.TheVariants as end
 use Rattle.qml_syntax.specs.declared.node.Node.{Node}
 use Rattle.qml_syntax.specs.declared.node.Node.TheVariants as node
-use Rattle.qml_syntax.specs.Tree.{Units, Close, semi, auto, Expr, name, number, text, literal, paren, list, fields, bumped, no_exprs, no_fields, Step, member, element, call, binding, no_signs, no_links, no_choices, no_targets, Stmt, empty, expr, block, declare, when, either, while, for, give, stop, again, no_stmts, Vars, last_var, Maybe, nothing, just, First, no_first, first_expr, first_declare}
+use Rattle.qml_syntax.specs.Tree.{Units, Close, semi, auto, Expr, name, number, text, literal, paren, list, fields, bumped, no_exprs, no_fields, Step, member, element, call, binding, no_signs, no_links, no_choices, no_targets, Stmt, empty, expr, block, declare, when, either, while, for, give, stop, again, Stmts, no_stmts, Vars, last_var, Maybe, nothing, just, First, no_first, first_expr, first_declare}
 use Rattle.qml_syntax.specs.Onto.{Field, Sign, Link, Choice, Target, Var, exprs_onto, fields_onto, stepped, signed_onto, chain_onto, choose_onto, assign_onto, vars_onto, stmts_onto}
 
 -- a part that no node has taken
@@ -25,6 +25,7 @@ pub data Item : Type 0 where
   of_var : Units → Place → Item
   of_first : First → Item
   of_maybe : Maybe → Item
+  of_body : Stmts → Item
 
 -- the latest part in front
 abbrev pub Parts : Type 0
@@ -224,11 +225,22 @@ apply (node.Give p c) s = of_stmt (give p nothing (close_of c)) ∷ s
 apply (node.GiveValue p c) s = of_stmt (give p (just (top_expr s)) (close_of c)) ∷ below s
 apply (node.Stop p c) s = of_stmt (stop p (close_of c)) ∷ s
 apply (node.Again p c) s = of_stmt (again p (close_of c)) ∷ s
+apply node.Body s = of_body (stmts_onto (stmts_in s) no_stmts) ∷ below_stmts s
 
-abbrev pub parts_onto : Parts → List Node → Parts
-parts_onto s [] = s
-parts_onto s (x ∷ xs) = parts_onto (apply x s) xs
+-- ---- nodes in a row, the latest in front
+
+abbrev pub Table : Type 0
+Table = List Node
 
 -- the parts that these nodes leave
-abbrev pub parts_of : List Node → Parts
-parts_of xs = parts_onto [] xs
+abbrev pub parts_in : Table → Parts
+parts_in [] = []
+parts_in (x ∷ xs) = apply x (parts_in xs)
+
+abbrev pub is_mark : Node → Bool
+is_mark node.Mark = true
+is_mark _ = false
+
+abbrev pub at_mark : Table → Bool
+at_mark [] = false
+at_mark (x ∷ xs) = is_mark x

@@ -1,34 +1,38 @@
 -- The nodes of trees, and which of them is the first that stands too deep.
 use Rattle.std.specs.Prelude.{ℕ, ◌+◌, List, [], ◌∷◌, ◌++◌, Option, Some, None, nat_lt, if◌then◌else◌}
 use Rattle.qml_base.specs.declared.numbers.Place.{Place}
-use Rattle.qml_syntax.specs.Tree.{Expr, name, number, text, literal, paren, list, fields, steps, bumped, signed, chain, choose, assign, Exprs, no_exprs, an_expr, Fields, no_fields, a_field, Step, member, element, call, binding, Steps, no_steps, a_step, Links, no_links, a_link, Choices, no_choices, a_choice, Targets, no_targets, a_target, Stmt, empty, expr, block, declare, when, either, while, for, give, stop, again, Stmts, no_stmts, a_stmt, Vars, last_var, a_var, Maybe, nothing, just, First, no_first, first_expr, first_declare}
+use Rattle.qml_syntax.specs.declared.deep.Standing.{Standing}
+use Rattle.qml_syntax.specs.Tree.{Expr, name, number, text, literal, paren, list, fields, steps, bumped, signed, chain, choose, assign, Exprs, no_exprs, an_expr, Fields, no_fields, a_field, Step, member, element, call, binding, Steps, no_steps, a_step, Links, no_links, a_link, Choices, no_choices, a_choice, Targets, no_targets, a_target, Stmt, empty, expr, block, declare, when, either, while, for, give, stop, again, Stmts, no_stmts, a_stmt, Vars, last_var, a_var, Maybe, nothing, just, First, no_first, first_expr, first_declare, Whole, whole_expr, whole_stmt, whole_body}
 use Rattle.qml_syntax.specs.Depth.{place_of}
 
--- how deep each node stands, and the place of its first token
 abbrev pub Nodes : Type 0
-Nodes = List (ℕ × Place)
+Nodes = List Standing
+
+-- a node that stands at this depth and begins at this place
+abbrev pub stands : ℕ → Place → Standing
+stands d p = record { depth = d; place = p }
 
 -- the first that stands deeper than 100
 abbrev pub first_deep : Nodes → Option Place
 first_deep [] = None
-first_deep (x ∷ rest) = if nat_lt 100 x.0 then Some x.1 else first_deep rest
+first_deep (x ∷ rest) = if nat_lt 100 x.depth then Some x.place else first_deep rest
 
 -- the nodes of a tree at this depth in the order of writing, each before its parts: how deep each stands, and its first token
 abbrev mutual
   pub nodes : ℕ → Expr → Nodes
-  nodes d (name n p) = (d, p) ∷ []
-  nodes d (number n p) = (d, p) ∷ []
-  nodes d (text n p) = (d, p) ∷ []
-  nodes d (literal f p) = (d, p) ∷ []
-  nodes d (paren p e) = (d, p) ∷ nodes (d + 1) e
-  nodes d (list p es c) = (d, p) ∷ nodes_exprs (d + 1) es
-  nodes d (fields p fs c) = (d, p) ∷ nodes_fields (d + 1) fs
-  nodes d (steps e s ss) = (d, place_of e) ∷ (nodes (d + 1) e ++ (nodes_step (d + 1) s ++ nodes_steps (d + 1) ss))
-  nodes d (bumped e i p) = (d, place_of e) ∷ nodes (d + 1) e
-  nodes d (signed g p ss e) = (d, p) ∷ nodes (d + 1) e
-  nodes d (chain e op p f ls) = (d, place_of e) ∷ (nodes (d + 1) e ++ (nodes (d + 1) f ++ nodes_links (d + 1) ls))
-  nodes d (choose c e cs f) = (d, place_of c) ∷ (nodes (d + 1) c ++ (nodes (d + 1) e ++ (nodes_choices (d + 1) cs ++ nodes (d + 1) f)))
-  nodes d (assign t g p ts v) = (d, place_of t) ∷ (nodes (d + 1) t ++ (nodes_targets (d + 1) ts ++ nodes (d + 1) v))
+  nodes d (name n p) = stands d p ∷ []
+  nodes d (number n p) = stands d p ∷ []
+  nodes d (text n p) = stands d p ∷ []
+  nodes d (literal f p) = stands d p ∷ []
+  nodes d (paren p e) = stands d p ∷ nodes (d + 1) e
+  nodes d (list p es c) = stands d p ∷ nodes_exprs (d + 1) es
+  nodes d (fields p fs c) = stands d p ∷ nodes_fields (d + 1) fs
+  nodes d (steps e s ss) = stands d (place_of e) ∷ (nodes (d + 1) e ++ (nodes_step (d + 1) s ++ nodes_steps (d + 1) ss))
+  nodes d (bumped e i p) = stands d (place_of e) ∷ nodes (d + 1) e
+  nodes d (signed g p ss e) = stands d p ∷ nodes (d + 1) e
+  nodes d (chain e op p f ls) = stands d (place_of e) ∷ (nodes (d + 1) e ++ (nodes (d + 1) f ++ nodes_links (d + 1) ls))
+  nodes d (choose c e cs f) = stands d (place_of c) ∷ (nodes (d + 1) c ++ (nodes (d + 1) e ++ (nodes_choices (d + 1) cs ++ nodes (d + 1) f)))
+  nodes d (assign t g p ts v) = stands d (place_of t) ∷ (nodes (d + 1) t ++ (nodes_targets (d + 1) ts ++ nodes (d + 1) v))
 
   pub nodes_exprs : ℕ → Exprs → Nodes
   nodes_exprs d no_exprs = []
@@ -42,7 +46,7 @@ abbrev mutual
   nodes_step d (member n p) = []
   nodes_step d (element p e) = nodes d e
   nodes_step d (call p es) = nodes_exprs d es
-  nodes_step d (binding p ss) = (d, p) ∷ nodes_stmts (d + 1) ss
+  nodes_step d (binding p ss) = stands d p ∷ nodes_stmts (d + 1) ss
 
   pub nodes_steps : ℕ → Steps → Nodes
   nodes_steps d no_steps = []
@@ -62,17 +66,17 @@ abbrev mutual
 
   -- an expression statement is no node of its own
   pub nodes_stmt : ℕ → Stmt → Nodes
-  nodes_stmt d (empty p) = (d, p) ∷ []
+  nodes_stmt d (empty p) = stands d p ∷ []
   nodes_stmt d (expr e c) = nodes d e
-  nodes_stmt d (block p ss) = (d, p) ∷ nodes_stmts (d + 1) ss
-  nodes_stmt d (declare p q vs c) = (d, p) ∷ nodes_vars (d + 1) vs
-  nodes_stmt d (when p e s) = (d, p) ∷ (nodes (d + 1) e ++ nodes_stmt (d + 1) s)
-  nodes_stmt d (either p e s r) = (d, p) ∷ (nodes (d + 1) e ++ (nodes_stmt (d + 1) s ++ nodes_stmt (d + 1) r))
-  nodes_stmt d (while p e s) = (d, p) ∷ (nodes (d + 1) e ++ nodes_stmt (d + 1) s)
-  nodes_stmt d (for p i e f s) = (d, p) ∷ (nodes_first (d + 1) i ++ (nodes_maybe (d + 1) e ++ (nodes_maybe (d + 1) f ++ nodes_stmt (d + 1) s)))
-  nodes_stmt d (give p e c) = (d, p) ∷ nodes_maybe (d + 1) e
-  nodes_stmt d (stop p c) = (d, p) ∷ []
-  nodes_stmt d (again p c) = (d, p) ∷ []
+  nodes_stmt d (block p ss) = stands d p ∷ nodes_stmts (d + 1) ss
+  nodes_stmt d (declare p q vs c) = stands d p ∷ nodes_vars (d + 1) vs
+  nodes_stmt d (when p e s) = stands d p ∷ (nodes (d + 1) e ++ nodes_stmt (d + 1) s)
+  nodes_stmt d (either p e s r) = stands d p ∷ (nodes (d + 1) e ++ (nodes_stmt (d + 1) s ++ nodes_stmt (d + 1) r))
+  nodes_stmt d (while p e s) = stands d p ∷ (nodes (d + 1) e ++ nodes_stmt (d + 1) s)
+  nodes_stmt d (for p i e f s) = stands d p ∷ (nodes_first (d + 1) i ++ (nodes_maybe (d + 1) e ++ (nodes_maybe (d + 1) f ++ nodes_stmt (d + 1) s)))
+  nodes_stmt d (give p e c) = stands d p ∷ nodes_maybe (d + 1) e
+  nodes_stmt d (stop p c) = stands d p ∷ []
+  nodes_stmt d (again p c) = stands d p ∷ []
 
   pub nodes_stmts : ℕ → Stmts → Nodes
   nodes_stmts d no_stmts = []
@@ -89,4 +93,10 @@ abbrev mutual
   pub nodes_first : ℕ → First → Nodes
   nodes_first d no_first = []
   nodes_first d (first_expr e) = nodes d e
-  nodes_first d (first_declare p q vs) = (d, p) ∷ nodes_vars (d + 1) vs
+  nodes_first d (first_declare p q vs) = stands d p ∷ nodes_vars (d + 1) vs
+
+-- an expression, a statement and each statement of a list has depth 1
+abbrev pub nodes_whole : Whole → Nodes
+nodes_whole (whole_expr e) = nodes 1 e
+nodes_whole (whole_stmt s) = nodes_stmt 1 s
+nodes_whole (whole_body ss) = nodes_stmts 1 ss

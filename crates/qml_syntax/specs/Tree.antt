@@ -98,3 +98,9 @@ mutual
     no_first : First
     first_expr : Expr → First
     first_declare : Place → Declaration → Vars → First
+
+-- an expression, a statement, or a list of statements as a body
+pub data Whole : Type 0 where
+  whole_expr : Expr → Whole
+  whole_stmt : Stmt → Whole
+  whole_body : Stmts → Whole

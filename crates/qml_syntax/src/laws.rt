@@ -1,11 +1,16 @@
 //! Laws of the definitions, each as the contract of a call that does nothing.
 
-ghost use Rattle.std.specs.Prelude.{◌≡◌, ◌++◌, ℕ, Bool, List};
+ghost use Rattle.std.specs.Prelude.{◌≡◌, ◌∷◌, ◌++◌, ◌+◌, ℕ, Bool, List, map, reverse, sum_by};
 ghost use Rattle.qml_syntax.specs.declared.token.Token.{Token};
-ghost use Rattle.qml_syntax.specs.Tree.{Expr, Stmt, Stmts};
+ghost use Rattle.qml_syntax.specs.declared.node.Node.{Node};
+ghost use Rattle.qml_syntax.specs.Tree.{Expr, Stmt, Stmts, Whole};
 ghost use Rattle.qml_syntax.specs.Reads.{Reads, ReadsStmt, ReadsStmts};
 ghost use Rattle.qml_syntax.specs.Depth.{deep, deep_stmt, deep_stmts};
 ghost use Rattle.qml_syntax.specs.Standing.{first_deep, nodes, nodes_stmt, nodes_stmts};
+ghost use Rattle.qml_syntax.specs.Nodes.{Item, of_expr, of_stmt, Parts, Table, apply, parts_in};
+ghost use Rattle.qml_syntax.specs.Listed.{listed, listed_stmt, listed_whole};
+ghost use Rattle.qml_syntax.specs.Opened.{node_of, parts_of, item_at, whole_in, IsLevel};
+ghost use Rattle.qml_syntax.specs.Starts.{nodes_of};
 ghost use Rattle.qml_syntax.specs.Flat.{kinds_of, flat, flat_stmt, flat_stmts};
 
 /// An expression written out is the tokens that it reads.
@@ -42,4 +47,46 @@ pub fn statement_is_deep()
 #[tactic(auto, using(crate::proofs::DepthLemmas::is_deep_stmts))]
 pub fn body_is_deep()
     ensures { (d : ℕ) (ss : Stmts) → deep_stmts d ss ≡ first_deep (nodes_stmts d ss) }
+{}
+
+/// The nodes of an expression, on top of others, leave that expression as the last part.
+#[tactic(auto, using(crate::proofs::PartsLemmas::parts))]
+pub fn expression_is_listed()
+    ensures { (e : Expr) (s : Table) → parts_in (listed e s) ≡ of_expr e ∷ parts_in s }
+{}
+
+/// The nodes of a statement, on top of others, leave that statement as the last part.
+#[tactic(auto, using(crate::proofs::PartsLemmas::parts_stmt))]
+pub fn statement_is_listed()
+    ensures { (d : Stmt) (s : Table) → parts_in (listed_stmt d s) ≡ of_stmt d ∷ parts_in s }
+{}
+
+/// The nodes of a whole tree are those of that tree.
+#[tactic(auto, using(crate::proofs::RootLemmas::whole_found))]
+pub fn tree_is_listed()
+    ensures { (w : Whole) → whole_in (listed_whole w) ≡ Some w }
+{}
+
+/// No two trees have the same nodes.
+#[tactic(auto, using(crate::proofs::RootLemmas::listed_once))]
+pub fn tree_is_listed_once()
+    ensures { (w v : Whole) → listed_whole w ≡ listed_whole v → w ≡ v }
+{}
+
+/// A part's node makes it of its parts, whatever stands before them.
+#[tactic(auto, using(crate::proofs::GatherLemmas::level_is_made))]
+pub fn level_is_made()
+    ensures { (i : Item) (s : Parts) → apply (node_of i) (reverse (parts_of i) ++ s) ≡ i ∷ s }
+{}
+
+/// The node of an opened level makes the part at its place of those at the places of its parts, whatever stands before.
+#[tactic(auto, using(crate::proofs::GatherLemmas::opened_is_made))]
+pub fn opened_level_is_made()
+    ensures { (t : Table) (at : ℕ) (x : Node) (places : List ℕ) → IsLevel t at x places → (s : Parts) → apply x (reverse (map (item_at t) places) ++ s) ≡ item_at t at ∷ s }
+{}
+
+/// A part has one node more than the parts that it takes together.
+#[tactic(auto, using(crate::proofs::GatherLemmas::level_size))]
+pub fn level_is_counted()
+    ensures { (i : Item) → nodes_of i ≡ 1 + sum_by nodes_of (parts_of i) }
 {}

@@ -3,20 +3,29 @@
 //! of the crate above this one that reads them. The definitions of `specs/` say what trees of expressions and statements
 //! are, which tokens a tree reads (`Reads`), how a tree is written out (`Flat`) and how deep its nodes stand (`Depth`);
 //! the laws over them are the contracts of the calls in `laws`. The types stand here, so that definitions and code speak
-//! of the same values; each call on them says exactly what it answers.
+//! of the same values; each call on them says exactly what it answers. `Tree` keeps a tree as nodes in a table
+//! (`Listed`) and opens one level of it at a time (`Opened`).
 #![tactic(auto)]
 
+mod deep;
+mod flat;
 pub mod laws;
 mod literal;
 mod mark;
 mod node;
 mod operators;
+mod same;
+mod spans;
+mod taking;
 mod token;
+mod tree;
 mod word;
 
+pub use deep::Standing;
 pub use literal::{Declaration, Literal};
 pub use mark::Mark;
 pub use node::{Close, Node, Nodes};
 pub use operators::{Assignment, Operator, Postfix, Prefix};
 pub use token::{Token, TokenKind};
+pub use tree::Tree;
 pub use word::Word;

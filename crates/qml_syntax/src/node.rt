@@ -1,6 +1,6 @@
 //! Trees as nodes, children before their parents.
 
-ghost use Rattle.std.specs.Prelude.{◌≡◌, [], OnOk, OnErr};
+ghost use Rattle.std.specs.Prelude.{◌≡◌, [], ◌∷◌, reverse, OnOk, OnErr};
 ghost use Rattle.qml_syntax.specs.Nodes as n;
 
 use crate::literal::{Declaration, Literal};
@@ -8,6 +8,7 @@ use crate::operators::{Assignment, Operator, Postfix, Prefix};
 use qml_base::{NoMemory, Place};
 use qml_text::Text;
 use std::alloc::Global;
+use std::marker::Model;
 
 /// How a statement ends.
 #[derive(Clone, Copy, Debug, PartialEq, Eq)]
@@ -104,19 +105,42 @@ pub enum Node {
     Stop(Place, Close),
     /// `continue`.
     Again(Place, Close),
+    /// A body of the statements behind the mark.
+    Body,
 }
 
-/// Nodes, children before their parents: they stand for the parts that no node has taken (`parts_of`, the latest in
-/// front). Dropping them needs no stack, however deep the tree is.
+impl Node {
+    /// Whether it is a mark.
+    pub fn is_mark(&self) -> bool
+        ensures { result ≡ n.is_mark self.now }
+    {
+        match self {
+            Node::Mark => true,
+            _ => false,
+        }
+    }
+}
+
+/// Nodes, children before their parents. Contracts see them as a list, the latest in front. Dropping them needs no stack,
+/// however deep the tree is.
 #[derive(Debug, Drop)]
 pub struct Nodes {
     nodes: Vec<Node>,
 }
 
+impl Model for Nodes {
+    ghost use Rattle.std.specs.Prelude.{List, reverse};
+    ghost use Rattle.qml_syntax.specs.declared.node.Node as d;
+
+    ghost Value = { List d.Node };
+
+    ghost view = { λ o. reverse o.nodes.items };
+}
+
 impl Nodes {
     /// No node.
     pub fn new(alloc: Global) -> Nodes
-        ensures { n.parts_of result.nodes.items ≡ [] }
+        ensures { result ≡ [] }
     {
         Nodes {
             nodes: Vec::new(alloc),
@@ -124,14 +148,37 @@ impl Nodes {
     }
 
     /// Adds a node, which takes its parts. On an error nothing changes.
-    #[tactic(auto, using(crate::proofs::NodesLemmas::parts_push))]
     pub fn push(&mut self, node: Node) -> Result<(), NoMemory>
-        ensures added { OnOk result (n.parts_of self.new.nodes.items ≡ n.apply node (n.parts_of self.old.nodes.items)) }
-        ensures kept { OnErr result (self.new.nodes.items ≡ self.old.nodes.items) }
+        ensures added { OnOk result (self.new ≡ node ∷ self.old) }
+        ensures kept { OnErr result (self.new ≡ self.old) }
     {
         match self.nodes.push(node) {
             Ok(()) => Ok(()),
             Err(_) => Err(NoMemory),
+        }
+    }
+
+    /// The nodes in their order.
+    pub(crate) fn into_vec(self) -> Vec<Node>
+        ensures { self ≡ reverse result.items }
+    {
+        self.nodes
+    }
+
+    /// The nodes in the order in which they were added.
+    pub(crate) fn as_slice(&self) -> &[Node]
+        ensures { reverse result.now ≡ self.now }
+    {
+        &self.nodes
+    }
+
+    /// Whether the last node is a mark.
+    pub fn at_mark(&self) -> bool
+        ensures { result ≡ n.at_mark self.now }
+    {
+        match self.nodes.last() {
+            Some(node) => node.is_mark(),
+            None => false,
         }
     }
 }

@@ -1,0 +1,10 @@
+pub mod Frames
+pub mod Machine
+pub mod Answer
+pub mod Front
+pub mod Tape
+pub mod Moves
+pub mod Kept
+pub mod Moved
+pub mod Loops
+pub mod Roles

@@ -1,0 +1,57 @@
+-- Where in a table the nodes of a part begin.
+use Rattle.std.specs.Prelude.{◌≡◌, ℕ, ◌+◌, ◌<◌, ◌≤◌, List, [], ◌∷◌, length, reverse, slice_index}
+use Rattle.qml_syntax.specs.declared.node.Node.{Node}
+use Rattle.qml_syntax.specs.declared.node.Node.TheVariants as node
+use Rattle.qml_syntax.specs.Nodes.{Item, mark, of_expr, of_step, of_stmt, of_key, of_sign, of_link, of_choice, of_target, of_var, of_first, of_maybe, of_body, Parts, Table, below, parts_in}
+use Rattle.qml_syntax.specs.Listed.{listed, listed_step, listed_stmt, listed_first, listed_maybe, listed_stmts}
+use Rattle.qml_syntax.specs.Opened.{first, IsListing}
+
+-- the nodes of a part on top of those before
+abbrev pub listed_item : Item → Table → Table
+listed_item mark s = node.Mark ∷ s
+listed_item (of_expr e) s = listed e s
+listed_item (of_step i) s = listed_step i s
+listed_item (of_stmt d) s = listed_stmt d s
+listed_item (of_key q n p) s = node.Key q n p ∷ s
+listed_item (of_sign f g p) s = node.Sign f g p ∷ s
+listed_item (of_link f op p d) s = node.Link f op p ∷ listed d s
+listed_item (of_choice f c e) s = node.Choice f ∷ listed e (listed c s)
+listed_item (of_target f t g p) s = node.Target f g p ∷ listed t s
+listed_item (of_var n p) s = node.Var n p ∷ s
+listed_item (of_first i) s = listed_first i s
+listed_item (of_maybe e) s = listed_maybe e s
+listed_item (of_body ss) s = node.Body ∷ listed_stmts ss (node.Mark ∷ s)
+
+-- how many nodes a part has
+abbrev pub nodes_of : Item → ℕ
+nodes_of i = length (listed_item i [])
+
+-- the nodes of parts, the latest in front
+abbrev pub listed_parts : Parts → Table
+listed_parts [] = []
+listed_parts (i ∷ s) = listed_item i (listed_parts s)
+
+-- the parts that the first nodes leave, this many
+abbrev pub standing : Table → ℕ → Parts
+standing t k = parts_in (first k t)
+
+-- how many nodes stand before those of the part whose node stands behind this many others
+abbrev pub start_at : Table → ℕ → ℕ
+start_at t k = length (listed_parts (below (standing t (k + 1))))
+
+-- whether the first nodes, however many, are those of the parts that they leave
+abbrev pub AllWhole : Table → Type 0
+AllWhole [] = Unit {0}
+AllWhole (x ∷ xs) = (listed_parts (parts_in (x ∷ xs)) ≡ x ∷ xs) × AllWhole xs
+
+-- nodes in their order, and where the parts of the first of them start
+pub record Started (nodes : List Node) (starts : List ℕ) : Type 0 where
+  pub whole : AllWhole (reverse nodes)
+  pub few : length starts ≤ length nodes
+  pub right : (k : ℕ) → k < length starts → slice_index starts k ≡ start_at (reverse nodes) k
+
+-- the nodes of a tree in their order, and where the parts of all of them start
+pub record Spanned (nodes : List Node) (starts : List ℕ) : Type 0 where
+  pub listing : IsListing (reverse nodes)
+  pub started : Started nodes starts
+  pub all : length starts ≡ length nodes
