@@ -4,9 +4,11 @@ ghost use Rattle.std.specs.Prelude.{◌≡◌};
 ghost use Rattle.qml_text.specs.declared.fault.TextFault.TheVariants as fault;
 
 use std::alloc::{AllocError, AllocFailed};
+use thiserror::Error;
 
 /// There was no memory.
-#[derive(Clone, Copy, Debug, PartialEq, Eq)]
+#[derive(Clone, Copy, Debug, PartialEq, Eq, Error)]
+#[error("there was no memory")]
 pub struct NoMemory;
 
 impl From<AllocError> for NoMemory {
@@ -22,11 +24,13 @@ impl<T: Drop> From<AllocFailed<T>> for NoMemory {
 }
 
 /// Why bytes are not read as a text.
-#[derive(Clone, Copy, Debug, PartialEq, Eq)]
+#[derive(Clone, Copy, Debug, PartialEq, Eq, Error)]
 pub enum TextFault {
     /// The bytes aren't UTF-8; `at` is the length of their longest prefix that is.
+    #[error("the bytes aren't UTF-8 from byte {at} on")]
     BadByte { at: usize },
     /// There was no memory.
+    #[error("there was no memory")]
     NoMemory,
 }
 
