@@ -15,10 +15,11 @@ use crate::members::Program;
 use crate::names::may_be_name;
 use crate::pieces::cut_at;
 use crate::values::content;
+use qml_base::FILE_LIMIT;
 use std::alloc::{AllocError, Global};
 
 /// How many bytes a document or a script may have.
-pub const LARGEST: usize = 4 * 1024 * 1024;
+pub const LARGEST: usize = FILE_LIMIT;
 
 /// What follows this word, which stands behind spaces.
 fn behind_word<'a>(bytes: &'a [u8], word: &[u8]) -> Option<&'a [u8]>

@@ -2,8 +2,10 @@
 ghost use Rattle.std.specs.Prelude.{◌≡◌, ◌^◌, ◌≤◌, IfSome};
 ghost use Rattle.first_form.specs.Numbers.{number_of, has_leading_zero};
 
+use qml_base::NUMBER_LIMIT;
+
 /// The greatest number that a document or a script may have.
-const LIMIT: u64 = 1 << 53;
+const LIMIT: u64 = NUMBER_LIMIT;
 
 fn leads_with_zero(digits: &[u8]) -> bool
     ensures { result ≡ has_leading_zero digits.now }

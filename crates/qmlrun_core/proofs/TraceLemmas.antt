@@ -1,5 +1,5 @@
 -- From a part of reading to the whole of it.
-use Rattle.std.proofs.Common.{◌≡◌, refl, subst, ℕ, List, inr, None, Some}
+use Rattle.std.proofs.Common.{◌≡◌, refl, subst, ℕ, List, inl, inr, None, Some}
 use Rattle.std.specs.Prelude.{IfSome, IsOk}
 use Rattle.std.specs.declared.option.Option.{Option}
 use Rattle.std.specs.declared.result.Result.{Result}
@@ -11,7 +11,7 @@ use Rattle.qml_model.specs.Machine.{Output}
 use Rattle.qml_model.specs.declared.trace.Ending.{Ending}
 use Rattle.qmlrun_core.specs.Answer.{load, lines_read, with_lines, with_program}
 use Rattle.qmlrun_core.specs.Steps.{IsOutput}
-use Rattle.qmlrun_core.specs.Traces.{Reads, Traces, NeedsOf}
+use Rattle.qmlrun_core.specs.Traces.{Reads, Traces, MayFail, NeedsOf}
 use Rattle.qmlrun_core.specs.declared.answer.Traced.{Traced}
 use Rattle.qmlrun_core.specs.declared.answer.Traced.TheVariants.{Ends, ReadFailed}
 
@@ -44,3 +44,14 @@ pub root_traced : (traced : Traced) (old new : Reads) (root script before now : 
     → Traces traced old new (NeedsOf root script old.told) before now (λ files. with_program root script (load (file_at files root)) files)
 root_traced (Ends how) old new root script before now bytes found (none, ne, is) = (none, ne, as_told old.told root script before now how bytes found is)
 root_traced ReadFailed old new root script before now bytes found (file, (is, ok), fails, told) = (file, needs_script old.told root script file bytes found is ok, fails, told)
+
+-- the same of what failed, where there was no memory
+pub loaded_failing : (old new : Reads) (script : List ℕ) (members : List Member) (loaded : Result (List Member) LoadCause) → Ok members ≡ loaded
+    → MayFail old new (λ file. file ≡ script) → MayFail old new (λ file. (file ≡ script) × IsOk loaded)
+loaded_failing old new script members loaded e (inl none) = inl none
+loaded_failing old new script members loaded e (inr (file, is, fails)) = inr (file, (is, subst (λ (l : Result (List Member) LoadCause). IsOk l) e refl), fails)
+
+pub root_failing : (old new : Reads) (root script : List ℕ) (bytes : Option (List ℕ)) → IfSome old.told (λ files. bytes ≡ file_at files root)
+    → MayFail old new (λ file. (file ≡ script) × IsOk (load bytes)) → MayFail old new (NeedsOf root script old.told)
+root_failing old new root script bytes found (inl none) = inl none
+root_failing old new root script bytes found (inr (file, (is, ok), fails)) = inr (file, needs_script old.told root script file bytes found is ok, fails)

@@ -1,0 +1,3 @@
+pub mod Settles
+pub mod Sweeps
+pub mod Values

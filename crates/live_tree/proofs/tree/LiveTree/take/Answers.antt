@@ -1,0 +1,15 @@
+use Rattle.std.proofs.Common.{◌≡◌, ◌<◌, sym, subst, length}
+use Rattle.tree_model.specs.Settling.{place_of}
+use Rattle.live_tree.specs.Live.{HasCell}
+use Rattle.live_tree.proofs.LiveLemmas.{knows_all, replaced_below}
+use Rattle.tree_model.specs.declared.cells.Content.TheVariants.{Plain}
+use Rattle.qml_value.specs.declared.value.Value.{Undefined}
+use Rattle.live_tree.proofs.tree.LiveTree.take.Goals as goal
+
+pub invariant_of-self : goal.invariant_of-self
+invariant_of-self c =
+    let inside : place_of c.self.inside.store c.args.c < length c.self.inside.store = subst (λ t. HasCell t.tree c.args.c) (sym c.self.view_is) c.requires in
+    replaced_below c.self.inside.store c.take_content.new.self c.args.c (Plain Undefined) _ inside c.take_content.ensures.new c.self.invariant
+
+pub returns-clause-knows : goal.returns-clause-knows
+returns-clause-knows c = λ world h. knows_all world _
