@@ -2,7 +2,7 @@
 
 use js_parser::{ParseFault, parse_body, parse_expr, parse_statement};
 use qml_lexer::lex;
-use qml_syntax::{Node, Token, Tree};
+use qml_syntax::{Node, Token, Tree, flat};
 use std::alloc::Global;
 use std::test::Fail;
 
@@ -266,6 +266,7 @@ fn name_of(alloc: Global, node: &Node) -> Result<String, Fail> {
         Node::Stop(_, _) => "Stop",
         Node::Again(_, _) => "Again",
         Node::Body => "Body",
+        _ => "of a document",
     };
     Ok(String::from_str(alloc, name)?)
 }
@@ -331,6 +332,9 @@ fn reads_each_body(rt: HostRuntime) -> Result<(), Fail> {
         let answer = parse_body(rt.alloc(), &found, 0);
         let line = shown(rt.alloc(), &found, &answer)?;
         assert_eq!(rt; line.as_str(), *wanted);
+        if let Ok((tree, end)) = &answer {
+            assert_eq!(rt; flat(tree, rt.alloc())?.len(), *end);
+        }
     }
     Ok(())
 }

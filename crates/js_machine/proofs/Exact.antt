@@ -16,6 +16,7 @@ use Rattle.js_machine.proofs.Steps.{step_reads, jump_stmt}
 use Rattle.js_machine.proofs.Endings.{ending, Ended, ended_by}
 use Rattle.js_machine.proofs.Complete.{reads_go, stmt_go, stmts_go}
 use Rattle.js_machine.proofs.Closes.{lists}
+use Rattle.qml_syntax.specs.Tree.{whole_document, whole_script}
 
 -- ---- where the tokens end, what is read is a tree
 
@@ -65,6 +66,12 @@ whole_go a_statement (whole_expr d) s r = absurd r
 whole_go a_statement (whole_body d) s r = absurd r
 whole_go a_body (whole_expr d) s r = absurd r
 whole_go a_body (whole_stmt d) s r = absurd r
+whole_go an_expression (whole_document d) s r = absurd r
+whole_go an_expression (whole_script d) s r = absurd r
+whole_go a_statement (whole_document d) s r = absurd r
+whole_go a_statement (whole_script d) s r = absurd r
+whole_go a_body (whole_document d) s r = absurd r
+whole_go a_body (whole_script d) s r = absurd r
 
 -- ---- after the front the machine is in this state
 

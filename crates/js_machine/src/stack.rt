@@ -75,6 +75,13 @@ impl Stack {
         innermost_admits(&self.frames, tight)
     }
 
+    /// The frames, the innermost last.
+    pub fn as_slice(&self) -> &[Frame]
+        ensures { reverse result.now ≡ self.now }
+    {
+        &self.frames
+    }
+
     /// Closes the innermost frame.
     pub fn pop(&mut self) -> Option<Frame>
         ensures { MatchOption result ((self.old ≡ []) × (self.new ≡ [])) (λ frame. self.old ≡ frame ∷ self.new) }

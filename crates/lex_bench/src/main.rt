@@ -1,5 +1,5 @@
 //! Lexes the bytes of its input and prints how many tokens they have; with the word `parse` it parses the tokens as a
-//! body and prints how many nodes its tree has. With the word `speed` behind it does so twenty times over and prints how
+//! body, with `document` as a document, and prints how many nodes the tree has. With the word `speed` behind it does so twenty times over and prints how
 //! many bytes it lexes, or of how many it parses the tokens, in a second of the processor's time. It is no part of the
 //! product.
 #![tactic(auto)]
@@ -8,6 +8,7 @@ ghost use Rattle.std.specs.Prelude.{◌≤◌, length};
 
 use js_parser::parse_body;
 use qml_lexer::lex;
+use qml_parser::parse_document;
 use qml_syntax::Token;
 use std::alloc::Global;
 use std::env;
@@ -30,11 +31,24 @@ fn count(alloc: Global, bytes: &[u8]) -> usize
     }
 }
 
-/// How many nodes the tree of a body of these tokens has; none where they are refused.
-fn nodes(alloc: Global, tokens: &[Token]) -> usize {
-    match parse_body(alloc, tokens, 0) {
-        Ok((tree, _)) => tree.len(),
-        Err(_) => 0,
+/// What the tokens are parsed as.
+#[derive(Clone, Copy, Debug, PartialEq, Eq)]
+enum Reading {
+    Body,
+    Document,
+}
+
+/// How many nodes the tree of these tokens has; none where they are refused.
+fn nodes(alloc: Global, reading: Reading, tokens: &[Token]) -> usize {
+    match reading {
+        Reading::Body => match parse_body(alloc, tokens, 0) {
+            Ok((tree, _)) => tree.len(),
+            Err(_) => 0,
+        },
+        Reading::Document => match parse_document(alloc, tokens) {
+            Ok(tree) => tree.len(),
+            Err(_) => 0,
+        },
     }
 }
 
@@ -58,27 +72,27 @@ fn lexing(rt: &HostRuntime, bytes: &[u8]) -> io::Result<u64>
 }
 
 /// Of how many bytes the tokens are parsed in a second.
-fn parsing(rt: &HostRuntime, bytes: usize, tokens: &[Token]) -> io::Result<u64> {
+fn parsing(rt: &HostRuntime, reading: Reading, bytes: usize, tokens: &[Token]) -> io::Result<u64> {
     let before = rt.thread_cpu_time()?.as_micros();
     for _ in 0..ROUNDS {
-        let _ = nodes(rt.alloc(), tokens);
+        let _ = nodes(rt.alloc(), reading, tokens);
     }
     let after = rt.thread_cpu_time()?.as_micros();
     Ok(per_second(bytes, after.saturating_sub(before)))
 }
 
-/// Parses the bytes as a body.
-fn parse(rt: &HostRuntime, bytes: &[u8], speed: bool) -> io::Result<()>
+/// Parses the bytes.
+fn parse(rt: &HostRuntime, reading: Reading, bytes: &[u8], speed: bool) -> io::Result<()>
     requires { length bytes.now ≤ MOST }
 {
     let Ok(tokens) = lex(rt.alloc(), bytes) else {
         return println!(rt; "no tokens");
     };
-    let found = nodes(rt.alloc(), &tokens);
+    let found = nodes(rt.alloc(), reading, &tokens);
     let read = tokens.len();
     println!(rt; "{read} tokens, {found} nodes")?;
     if speed {
-        let rate = parsing(rt, bytes.len(), &tokens)?;
+        let rate = parsing(rt, reading, bytes.len(), &tokens)?;
         println!(rt; "{rate} bytes a second")?;
     }
     Ok(())
@@ -93,7 +107,10 @@ fn main(rt: HostRuntime) -> io::Result<()> {
     let mut words = env::args(&rt)?.skip(1);
     let first = words.next();
     if first.as_deref() == Some("parse") {
-        return parse(&rt, &bytes, words.next().is_some());
+        return parse(&rt, Reading::Body, &bytes, words.next().is_some());
+    }
+    if first.as_deref() == Some("document") {
+        return parse(&rt, Reading::Document, &bytes, words.next().is_some());
     }
     let tokens = count(rt.alloc(), &bytes);
     println!(rt; "{tokens} tokens")?;

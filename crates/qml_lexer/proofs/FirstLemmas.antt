@@ -5,9 +5,8 @@ use Rattle.std.proofs.lemmas.Bool.Decides.{nat_tests}
 use Rattle.qml_syntax.specs.declared.mark.Mark.TheVariants as mark
 use Rattle.qml_syntax.specs.declared.word.Word.TheVariants as word
 use Rattle.qml_lexer.specs.declared.marks.TheConstants.{MARKS, MARKS_FROM_LESS, MARKS_FROM_GREATER}
-use Rattle.qml_lexer.specs.declared.names.TheConstants.{WORDS}
+use Rattle.qml_lexer.specs.Names.{reserved_words, word_among}
 use Rattle.qml_lexer.specs.Marks.{first_of}
-use Rattle.qml_lexer.specs.Names.{word_among}
 
 -- ---- marks
 
@@ -87,52 +86,52 @@ pub ruleset marks_by_first = (from_colon, from_dot, from_left_paren, from_right_
 
 -- ---- reserved words
 
-pub from_b : (b : ℕ) (bytes : List ℕ) → b ≡ 98 → word_among (word.Break ∷ []) (b ∷ bytes) ≡ word_among WORDS (b ∷ bytes)
+pub from_b : (b : ℕ) (bytes : List ℕ) → b ≡ 98 → word_among (word.Break ∷ []) (b ∷ bytes) ≡ word_among reserved_words (b ∷ bytes)
 from_b b bytes e = rw e refl
 
-pub from_c : (b : ℕ) (bytes : List ℕ) → b ≡ 99 → word_among (word.Case ∷ word.Catch ∷ word.Class ∷ word.Const ∷ word.Continue ∷ []) (b ∷ bytes) ≡ word_among WORDS (b ∷ bytes)
+pub from_c : (b : ℕ) (bytes : List ℕ) → b ≡ 99 → word_among (word.Case ∷ word.Catch ∷ word.Class ∷ word.Const ∷ word.Continue ∷ []) (b ∷ bytes) ≡ word_among reserved_words (b ∷ bytes)
 from_c b bytes e = rw e refl
 
-pub from_d : (b : ℕ) (bytes : List ℕ) → b ≡ 100 → word_among (word.Debugger ∷ word.Default ∷ word.Delete ∷ word.Do ∷ []) (b ∷ bytes) ≡ word_among WORDS (b ∷ bytes)
+pub from_d : (b : ℕ) (bytes : List ℕ) → b ≡ 100 → word_among (word.Debugger ∷ word.Default ∷ word.Delete ∷ word.Do ∷ []) (b ∷ bytes) ≡ word_among reserved_words (b ∷ bytes)
 from_d b bytes e = rw e refl
 
-pub from_e : (b : ℕ) (bytes : List ℕ) → b ≡ 101 → word_among (word.Else ∷ word.Enum ∷ word.Export ∷ word.Extends ∷ []) (b ∷ bytes) ≡ word_among WORDS (b ∷ bytes)
+pub from_e : (b : ℕ) (bytes : List ℕ) → b ≡ 101 → word_among (word.Else ∷ word.Enum ∷ word.Export ∷ word.Extends ∷ []) (b ∷ bytes) ≡ word_among reserved_words (b ∷ bytes)
 from_e b bytes e = rw e refl
 
-pub from_f : (b : ℕ) (bytes : List ℕ) → b ≡ 102 → word_among (word.False ∷ word.Finally ∷ word.For ∷ word.Function ∷ []) (b ∷ bytes) ≡ word_among WORDS (b ∷ bytes)
+pub from_f : (b : ℕ) (bytes : List ℕ) → b ≡ 102 → word_among (word.False ∷ word.Finally ∷ word.For ∷ word.Function ∷ []) (b ∷ bytes) ≡ word_among reserved_words (b ∷ bytes)
 from_f b bytes e = rw e refl
 
-pub from_i : (b : ℕ) (bytes : List ℕ) → b ≡ 105 → word_among (word.If ∷ word.Import ∷ word.In ∷ word.InstanceOf ∷ []) (b ∷ bytes) ≡ word_among WORDS (b ∷ bytes)
+pub from_i : (b : ℕ) (bytes : List ℕ) → b ≡ 105 → word_among (word.If ∷ word.Import ∷ word.In ∷ word.InstanceOf ∷ []) (b ∷ bytes) ≡ word_among reserved_words (b ∷ bytes)
 from_i b bytes e = rw e refl
 
-pub from_l : (b : ℕ) (bytes : List ℕ) → b ≡ 108 → word_among (word.Let ∷ []) (b ∷ bytes) ≡ word_among WORDS (b ∷ bytes)
+pub from_l : (b : ℕ) (bytes : List ℕ) → b ≡ 108 → word_among (word.Let ∷ []) (b ∷ bytes) ≡ word_among reserved_words (b ∷ bytes)
 from_l b bytes e = rw e refl
 
-pub from_n : (b : ℕ) (bytes : List ℕ) → b ≡ 110 → word_among (word.New ∷ word.Null ∷ []) (b ∷ bytes) ≡ word_among WORDS (b ∷ bytes)
+pub from_n : (b : ℕ) (bytes : List ℕ) → b ≡ 110 → word_among (word.New ∷ word.Null ∷ []) (b ∷ bytes) ≡ word_among reserved_words (b ∷ bytes)
 from_n b bytes e = rw e refl
 
-pub from_r : (b : ℕ) (bytes : List ℕ) → b ≡ 114 → word_among (word.Return ∷ []) (b ∷ bytes) ≡ word_among WORDS (b ∷ bytes)
+pub from_r : (b : ℕ) (bytes : List ℕ) → b ≡ 114 → word_among (word.Return ∷ []) (b ∷ bytes) ≡ word_among reserved_words (b ∷ bytes)
 from_r b bytes e = rw e refl
 
-pub from_s : (b : ℕ) (bytes : List ℕ) → b ≡ 115 → word_among (word.Super ∷ word.Switch ∷ []) (b ∷ bytes) ≡ word_among WORDS (b ∷ bytes)
+pub from_s : (b : ℕ) (bytes : List ℕ) → b ≡ 115 → word_among (word.Super ∷ word.Switch ∷ []) (b ∷ bytes) ≡ word_among reserved_words (b ∷ bytes)
 from_s b bytes e = rw e refl
 
-pub from_t : (b : ℕ) (bytes : List ℕ) → b ≡ 116 → word_among (word.This ∷ word.Throw ∷ word.True ∷ word.Try ∷ word.TypeOf ∷ []) (b ∷ bytes) ≡ word_among WORDS (b ∷ bytes)
+pub from_t : (b : ℕ) (bytes : List ℕ) → b ≡ 116 → word_among (word.This ∷ word.Throw ∷ word.True ∷ word.Try ∷ word.TypeOf ∷ []) (b ∷ bytes) ≡ word_among reserved_words (b ∷ bytes)
 from_t b bytes e = rw e refl
 
-pub from_v : (b : ℕ) (bytes : List ℕ) → b ≡ 118 → word_among (word.Var ∷ word.Void ∷ []) (b ∷ bytes) ≡ word_among WORDS (b ∷ bytes)
+pub from_v : (b : ℕ) (bytes : List ℕ) → b ≡ 118 → word_among (word.Var ∷ word.Void ∷ []) (b ∷ bytes) ≡ word_among reserved_words (b ∷ bytes)
 from_v b bytes e = rw e refl
 
-pub from_w : (b : ℕ) (bytes : List ℕ) → b ≡ 119 → word_among (word.While ∷ word.With ∷ []) (b ∷ bytes) ≡ word_among WORDS (b ∷ bytes)
+pub from_w : (b : ℕ) (bytes : List ℕ) → b ≡ 119 → word_among (word.While ∷ word.With ∷ []) (b ∷ bytes) ≡ word_among reserved_words (b ∷ bytes)
 from_w b bytes e = rw e refl
 
-pub from_y : (b : ℕ) (bytes : List ℕ) → b ≡ 121 → word_among (word.Yield ∷ []) (b ∷ bytes) ≡ word_among WORDS (b ∷ bytes)
+pub from_y : (b : ℕ) (bytes : List ℕ) → b ≡ 121 → word_among (word.Yield ∷ []) (b ∷ bytes) ≡ word_among reserved_words (b ∷ bytes)
 from_y b bytes e = rw e refl
 
 other_byte : (k b : ℕ) → b ≢ k → nat_eq k b ≡ false
 other_byte k b n = grind (arith, nat_tests)
 
-pub from_another : (b : ℕ) (bytes : List ℕ) → b ≢ 98 → b ≢ 99 → b ≢ 100 → b ≢ 101 → b ≢ 102 → b ≢ 105 → b ≢ 108 → b ≢ 110 → b ≢ 114 → b ≢ 115 → b ≢ 116 → b ≢ 118 → b ≢ 119 → b ≢ 121 → word_among [] (b ∷ bytes) ≡ word_among WORDS (b ∷ bytes)
+pub from_another : (b : ℕ) (bytes : List ℕ) → b ≢ 98 → b ≢ 99 → b ≢ 100 → b ≢ 101 → b ≢ 102 → b ≢ 105 → b ≢ 108 → b ≢ 110 → b ≢ 114 → b ≢ 115 → b ≢ 116 → b ≢ 118 → b ≢ 119 → b ≢ 121 → word_among [] (b ∷ bytes) ≡ word_among reserved_words (b ∷ bytes)
 from_another b bytes n_b n_c n_d n_e n_f n_i n_l n_n n_r n_s n_t n_v n_w n_y = rw (other_byte 98 b n_b, other_byte 99 b n_c, other_byte 100 b n_d, other_byte 101 b n_e, other_byte 102 b n_f, other_byte 105 b n_i, other_byte 108 b n_l, other_byte 110 b n_n, other_byte 114 b n_r, other_byte 115 b n_s, other_byte 116 b n_t, other_byte 118 b n_v, other_byte 119 b n_w, other_byte 121 b n_y) refl
 
 pub ruleset words_by_first = (from_b, from_c, from_d, from_e, from_f, from_i, from_l, from_n, from_r, from_s, from_t, from_v, from_w, from_y, from_another)

@@ -10,13 +10,11 @@ use Rattle.std.specs.Str.{IsUtf8, chars, encode_utf8_all}
 use Rattle.std.proofs.lemmas.Str.{encodes-chars, encode_ascii, encodes_same}
 use Rattle.qml_syntax.specs.declared.word.Word.{Word}
 use Rattle.qml_syntax.specs.declared.token.TokenKind.{TokenKind}
-use Rattle.qml_lexer.specs.declared.names.TheConstants.{WORDS}
+use Rattle.qml_lexer.specs.Names.{reserved_words, word_among, word_or, kind_of, name, word_spelling}
 use Rattle.qml_lexer.specs.Characters.{is_part, run, behind}
-use Rattle.qml_lexer.specs.Names.{word_among, word_or, kind_of, name}
 use Rattle.qml_text.specs.Utf.{encode_utf16_all}
 use Rattle.qml_syntax.specs.declared.token.TokenKind.TheVariants as kind
 use Rattle.qml_lexer.specs.Characters.{is_start}
-use Rattle.qml_lexer.specs.Names.{word_spelling}
 use Rattle.qml_lexer.specs.Spells.{is_identifier, a_name, a_word, Fits}
 use Rattle.unicode_ident.proofs.IdentLemmas.{is_xid_start-ascii}
 use Rattle.unicode_ident.specs.Ident.{is_xid_start}
@@ -27,9 +25,9 @@ use Rattle.qml_lexer.proofs.RunLemmas.{and_true, and_both, run_passes, run_over,
 use Rattle.qml_lexer.proofs.TableLemmas.{word_letters, word_length, word_found}
 use Rattle.qml_lexer.proofs.Utf8Lemmas.{run-behind}
 
-pub kind_is : (bytes : List ℕ) (o : Option Word) → IsUtf8 bytes → o ≡ word_among WORDS bytes → word_or o (chars bytes) ≡ kind_of (chars bytes)
+pub kind_is : (bytes : List ℕ) (o : Option Word) → IsUtf8 bytes → o ≡ word_among reserved_words bytes → word_or o (chars bytes) ≡ kind_of (chars bytes)
 unfolding kind_of
-kind_is bytes o u e = ap (λ z. word_or z (chars bytes)) (e ∙ ap (word_among WORDS) (sym (encodes-chars bytes u)))
+kind_is bytes o u e = ap (λ z. word_or z (chars bytes)) (e ∙ ap (word_among reserved_words) (sym (encodes-chars bytes u)))
 
 pub name_is : (xs spelt rest : List ℕ) → spelt ≡ run is_part xs → rest ≡ behind is_part xs → name xs ≡ Ok (kind_of spelt, rest)
 unfolding name
@@ -97,11 +95,11 @@ among_is (j ∷ ws) w k h = by (among_is ws w k) (bytes_eq (word_spelling j) (en
 
 kind_of_name : (w : List ℕ) → ((k : Word) → w ≢ word_spelling k) → kind_of w ≡ kind.Name (encode_utf16_all w)
 unfolding kind_of
-kind_of_name w n = ap (λ o. word_or o w) (not_among WORDS w n)
+kind_of_name w n = ap (λ o. word_or o w) (not_among reserved_words w n)
 
 kind_of_word : (w : List ℕ) (k : Word) → w ≡ word_spelling k → kind_of w ≡ kind.Word k
 unfolding kind_of
-kind_of_word w k e = ap (λ o. word_or o w) (ap (λ z. word_among WORDS (encode_utf8_all z)) e ∙ ap (word_among WORDS) (word_encodes k) ∙ word_found k)
+kind_of_word w k e = ap (λ o. word_or o w) (ap (λ z. word_among reserved_words (encode_utf8_all z)) e ∙ ap (word_among reserved_words) (word_encodes k) ∙ word_found k)
 
 -- ---- an identifier is read, and what is read is one
 
@@ -131,15 +129,15 @@ pub word_read : (w more : List ℕ) (k : Word) → w ≡ word_spelling k → AtL
 word_read w more k e = identifier_read w more (kind.Word k) (ap is_identifier e ∙ word_identifier k) (kind_of_word w k e)
 
 spells_it : (w rest : List ℕ) → is_identifier w ≡ true → Fits w (kind_of w) rest
-spells_it w rest h = by (word_among WORDS (encode_utf8_all w)) refl
+spells_it w rest h = by (word_among reserved_words (encode_utf8_all w)) refl
   where
-    by : (o : Option Word) → word_among WORDS (encode_utf8_all w) ≡ o → Fits w (kind_of w) rest
+    by : (o : Option Word) → word_among reserved_words (encode_utf8_all w) ≡ o → Fits w (kind_of w) rest
     by None e =
-        let free : (k : Word) → w ≢ word_spelling k = λ k s. let some = ap (λ z. word_among WORDS (encode_utf8_all z)) s ∙ ap (word_among WORDS) (word_encodes k) ∙ word_found k in cc in
+        let free : (k : Word) → w ≢ word_spelling k = λ k s. let some = ap (λ z. word_among reserved_words (encode_utf8_all z)) s ∙ ap (word_among reserved_words) (word_encodes k) ∙ word_found k in cc in
         let P : TokenKind → Type 0 = λ z. Fits w z rest in
         subst P (sym (kind_of_name w free)) (record { spells = a_name h free; before = tt })
     by (Some k) e =
-        let is = among_is WORDS w k e in
+        let is = among_is reserved_words w k e in
         let P : TokenKind → Type 0 = λ z. Fits w z rest in
         subst P (sym (kind_of_word w k is)) (record { spells = a_word k is; before = tt })
 

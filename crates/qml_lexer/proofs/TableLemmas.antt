@@ -9,11 +9,10 @@ use Rattle.qml_syntax.specs.declared.mark.Mark.TheVariants as mark
 use Rattle.qml_syntax.specs.declared.word.Word.{Word}
 use Rattle.qml_syntax.specs.declared.word.Word.TheVariants as word
 use Rattle.qml_lexer.specs.declared.marks.TheConstants.{MARKS}
-use Rattle.qml_lexer.specs.declared.names.TheConstants.{WORDS}
+use Rattle.qml_lexer.specs.Names.{reserved_words, word_spelling, word_among}
 use Rattle.unicode_ident.proofs.Computing.{unicode_ident}
 use Rattle.qml_lexer.specs.Characters.{is_blank, is_quote, is_start}
 use Rattle.qml_lexer.specs.Marks.{mark_spelling, behind_all, found_or, first_of}
-use Rattle.qml_lexer.specs.Names.{word_spelling, word_among}
 use Rattle.qml_lexer.proofs.PairLemmas.{some_parts}
 use Rattle.qml_lexer.proofs.RunLemmas.{and_true, negated}
 use Rattle.qml_lexer.proofs.CharacterLemmas.{same_number}
@@ -213,6 +212,6 @@ pub word_length : (w : Word) → nat_lt 0 (length (word_spelling w)) ≡ true
 word_length word.Break = refl
 word_length _ = refl
 
-pub word_found : (w : Word) → word_among WORDS (word_spelling w) ≡ Some w
+pub word_found : (w : Word) → word_among reserved_words (word_spelling w) ≡ Some w
 word_found word.Break = refl
 word_found _ = refl

@@ -6,7 +6,6 @@ use Rattle.qml_syntax.specs.declared.word.Word.{Word}
 use Rattle.qml_syntax.specs.declared.word.Word.TheVariants as word
 use Rattle.qml_syntax.specs.declared.token.TokenKind.{TokenKind}
 use Rattle.qml_syntax.specs.declared.token.TokenKind.TheVariants as kind
-use Rattle.qml_lexer.specs.declared.names.TheConstants.{WORDS}
 use Rattle.qml_lexer.specs.Characters.{is_part, run, behind}
 use Rattle.qml_lexer.specs.Numbers.{ReadsKind}
 
@@ -51,6 +50,15 @@ word_spelling word.While = codes "while"
 word_spelling word.With = codes "with"
 word_spelling word.Yield = codes "yield"
 
+-- all reserved words
+abbrev pub reserved_words : List Word
+reserved_words =
+    word.Break ∷ word.Case ∷ word.Catch ∷ word.Class ∷ word.Const ∷ word.Continue ∷ word.Debugger ∷ word.Default ∷
+    word.Delete ∷ word.Do ∷ word.Else ∷ word.Enum ∷ word.Export ∷ word.Extends ∷ word.False ∷ word.Finally ∷
+    word.For ∷ word.Function ∷ word.If ∷ word.Import ∷ word.In ∷ word.InstanceOf ∷ word.Let ∷ word.New ∷
+    word.Null ∷ word.Return ∷ word.Super ∷ word.Switch ∷ word.This ∷ word.Throw ∷ word.True ∷ word.Try ∷
+    word.TypeOf ∷ word.Var ∷ word.Void ∷ word.While ∷ word.With ∷ word.Yield ∷ []
+
 -- the one of these words that is written with these bytes
 abbrev pub word_among : List Word → List ℕ → Option Word
 word_among [] bytes = None
@@ -62,7 +70,7 @@ word_or (Some w) characters = kind.Word w
 
 -- what the spelling of a name is
 unfoldable pub kind_of : List ℕ → TokenKind
-kind_of characters = word_or (word_among WORDS (encode_utf8_all characters)) characters
+kind_of characters = word_or (word_among reserved_words (encode_utf8_all characters)) characters
 
 unfoldable pub name : List ℕ → ReadsKind
 name xs = Ok (kind_of (run is_part xs), behind is_part xs)

@@ -4,10 +4,10 @@ ghost use Rattle.std.specs.Prelude.{◌≡◌, ◌≤◌, ◌<◌, ◌+◌, ◌-
 ghost use Rattle.qml_lexer.specs.Places as s;
 ghost use Rattle.qml_lexer.specs.Places.{IsLineAt};
 
-use qml_base::Place;
+use qml_base::{FILE_LIMIT, Place};
 
-/// The most bytes that are read, 4 MiB.
-pub const MOST_BYTES: usize = 4_194_304;
+/// The most bytes that are read.
+pub const MOST_BYTES: usize = FILE_LIMIT;
 
 /// A line: its number from 1 on, and how many bytes stand before it.
 #[derive(Clone, Copy, Debug, PartialEq, Eq)]

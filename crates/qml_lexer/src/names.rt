@@ -10,48 +10,6 @@ use qml_syntax::{Token, TokenKind, Word};
 use qml_text::{NoMemory, Text};
 use std::alloc::Global;
 
-/// All reserved words.
-pub const WORDS: [Word; 38] = [
-    Word::Break,
-    Word::Case,
-    Word::Catch,
-    Word::Class,
-    Word::Const,
-    Word::Continue,
-    Word::Debugger,
-    Word::Default,
-    Word::Delete,
-    Word::Do,
-    Word::Else,
-    Word::Enum,
-    Word::Export,
-    Word::Extends,
-    Word::False,
-    Word::Finally,
-    Word::For,
-    Word::Function,
-    Word::If,
-    Word::Import,
-    Word::In,
-    Word::InstanceOf,
-    Word::Let,
-    Word::New,
-    Word::Null,
-    Word::Return,
-    Word::Super,
-    Word::Switch,
-    Word::This,
-    Word::Throw,
-    Word::True,
-    Word::Try,
-    Word::TypeOf,
-    Word::Var,
-    Word::Void,
-    Word::While,
-    Word::With,
-    Word::Yield,
-];
-
 /// How a reserved word is written.
 fn spelling(word: Word) -> &'static str
     ensures { result.now ≡ s.word_spelling word }
@@ -113,7 +71,7 @@ fn word_among(words: &[Word], name: &str) -> Option<Word>
 /// The reserved words among which a name that begins with this byte has to be looked for.
 #[tactic(auto, using(crate::proofs::FirstLemmas::words_by_first))]
 fn words_from(first: u8) -> &'static [Word]
-    ensures { (bytes : List ℕ) → s.word_among result.now (first ∷ bytes) ≡ s.word_among WORDS (first ∷ bytes) }
+    ensures { (bytes : List ℕ) → s.word_among result.now (first ∷ bytes) ≡ s.word_among s.reserved_words (first ∷ bytes) }
 {
     match first {
         b'b' => &[Word::Break],
@@ -142,7 +100,7 @@ fn words_from(first: u8) -> &'static [Word]
 
 /// The reserved word that is written so.
 fn word_of(name: &str) -> Option<Word>
-    ensures { result ≡ s.word_among WORDS name.now }
+    ensures { result ≡ s.word_among s.reserved_words name.now }
 {
     let first = name.as_bytes().first()?;
     word_among(words_from(*first), name)

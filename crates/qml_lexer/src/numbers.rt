@@ -10,10 +10,11 @@ ghost use Rattle.qml_lexer.specs.Reading.{GivesPart, GivesKind};
 
 use crate::characters::{Parts, begins, begins_with, split_first_char};
 use crate::fault::LexCause;
+use qml_base::NUMBER_LIMIT;
 use qml_syntax::TokenKind;
 
 /// The greatest number, 2^53.
-const GREATEST: u64 = 1 << 53;
+const GREATEST: u64 = NUMBER_LIMIT;
 
 /// The value of the digit in a radix at the front, and what stands behind it.
 pub fn first_digit(text: &str, radix: u32) -> Option<(u32, &str)>

@@ -2,9 +2,9 @@
 use Rattle.std.proofs.Common.{◌≡◌, ℕ, ◌+◌, true, false, [], ◌∷◌, ◌++◌, Option, Some, refl, sym, ap, ◌∙◌}
 use Rattle.std.specs.Prelude.{nat_lt, if◌then◌else◌}
 use Rattle.qml_base.specs.declared.numbers.Place.{Place}
-use Rattle.qml_syntax.specs.Tree.{Expr, name, number, text, literal, paren, list, fields, steps, bumped, signed, chain, choose, assign, Exprs, no_exprs, an_expr, Fields, no_fields, a_field, Step, member, element, call, binding, Steps, no_steps, a_step, Links, no_links, a_link, Choices, no_choices, a_choice, Targets, no_targets, a_target, Stmt, empty, expr, block, declare, when, either, while, for, give, stop, again, Stmts, no_stmts, a_stmt, Vars, last_var, a_var, Maybe, nothing, just, First, no_first, first_expr, first_declare, Whole, whole_expr, whole_stmt, whole_body}
-use Rattle.qml_syntax.specs.Depth.{◌or◌, place_of, deep, deep_exprs, deep_fields, deep_step, deep_steps, deep_links, deep_choices, deep_targets, deep_stmt, deep_stmts, deep_vars, deep_maybe, deep_first, deep_whole}
-use Rattle.qml_syntax.specs.Standing.{Nodes, first_deep, nodes, nodes_exprs, nodes_fields, nodes_step, nodes_steps, nodes_links, nodes_choices, nodes_targets, nodes_stmt, nodes_stmts, nodes_vars, nodes_maybe, nodes_first, nodes_whole}
+use Rattle.qml_syntax.specs.Tree.{Expr, name, number, text, literal, paren, list, fields, steps, bumped, signed, chain, choose, assign, Exprs, no_exprs, an_expr, Fields, no_fields, a_field, Step, member, element, call, binding, Steps, no_steps, a_step, Links, no_links, a_link, Choices, no_choices, a_choice, Targets, no_targets, a_target, Stmt, empty, expr, block, declare, when, either, while, for, give, stop, again, Stmts, no_stmts, a_stmt, Vars, last_var, a_var, Maybe, nothing, just, First, no_first, first_expr, first_declare}
+use Rattle.qml_syntax.specs.Depth.{◌or◌, place_of, deep, deep_exprs, deep_fields, deep_step, deep_steps, deep_links, deep_choices, deep_targets, deep_stmt, deep_stmts, deep_vars, deep_maybe, deep_first}
+use Rattle.qml_syntax.specs.Standing.{Nodes, first_deep, nodes, nodes_exprs, nodes_fields, nodes_step, nodes_steps, nodes_links, nodes_choices, nodes_targets, nodes_stmt, nodes_stmts, nodes_vars, nodes_maybe, nodes_first}
 
 first_append : (xs ys : Nodes) → first_deep (xs ++ ys) ≡ (first_deep xs or first_deep ys)
 first_append [] ys = refl
@@ -92,8 +92,3 @@ mutual
   is_deep_first d no_first = refl
   is_deep_first d (first_expr e) = is_deep d e
   is_deep_first d (first_declare p q vs) = ap (λ (z : Option Place). if nat_lt 100 d then Some p else z) (is_deep_vars (d + 1) vs)
-
-pub whole_is_deep : (x : Whole) → deep_whole x ≡ first_deep (nodes_whole x)
-whole_is_deep (whole_expr e) = is_deep 1 e
-whole_is_deep (whole_stmt d) = is_deep_stmt 1 d
-whole_is_deep (whole_body ss) = is_deep_stmts 1 ss

@@ -1,6 +1,14 @@
 pub mod FlatLemmas
+pub mod FlatDocumentLemmas
+pub mod DeepDocumentLemmas
 pub mod DepthLemmas
 pub mod ListedLemmas
+pub mod ListedDocumentLemmas
+pub mod DocumentParts
+pub mod DocumentPartsFound
+pub mod OneLevelDocument
+pub mod WholeDocument
+pub mod TakenDocument
 pub mod MadeLemmas
 pub mod PartsLemmas
 pub mod WholeLemmas
@@ -12,3 +20,7 @@ pub mod GatherLemmas
 pub mod WalkHeadLemmas
 pub mod WalkFlatLemmas
 pub mod WalkStandingLemmas
+pub mod WrittenDocument
+pub mod FoundDocument
+pub mod PlacesLemmas
+pub mod LinkLemmas

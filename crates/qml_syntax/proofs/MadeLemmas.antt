@@ -5,16 +5,13 @@ use Rattle.qml_syntax.specs.declared.operators.Operator.{Operator}
 use Rattle.qml_syntax.specs.declared.operators.Prefix.{Prefix}
 use Rattle.qml_syntax.specs.declared.operators.Assignment.{Assignment}
 use Rattle.qml_syntax.specs.declared.node.Node.TheVariants as node
-use Rattle.qml_syntax.specs.Tree.{Close, semi, auto, Expr, name, number, text, literal, paren, list, fields, steps, bumped, signed, chain, choose, assign, Exprs, no_exprs, an_expr, Fields, no_fields, a_field, Step, member, element, call, binding, Steps, no_steps, a_step, Signs, no_signs, a_sign, Links, no_links, a_link, Choices, no_choices, a_choice, Targets, no_targets, a_target, Stmt, empty, expr, block, declare, when, either, while, for, give, stop, again, Stmts, no_stmts, a_stmt, Vars, last_var, a_var, nothing, just, no_first, first_expr, first_declare}
+use Rattle.qml_syntax.specs.Tree.{Expr, name, number, text, literal, paren, list, fields, steps, bumped, signed, chain, choose, assign, Exprs, no_exprs, an_expr, Fields, no_fields, a_field, Step, member, element, call, binding, Steps, no_steps, a_step, Signs, no_signs, a_sign, Links, no_links, a_link, Choices, no_choices, a_choice, Targets, no_targets, a_target, Stmt, empty, expr, block, declare, when, either, while, for, give, stop, again, Stmts, no_stmts, a_stmt, Vars, last_var, a_var, nothing, just, no_first, first_expr, first_declare}
 use Rattle.qml_syntax.specs.Nodes.{Item, mark, of_expr, of_step, of_stmt, of_key, of_sign, of_link, of_choice, of_target, of_var, of_first, of_maybe, of_body, Parts, apply, close_of, exprs_in, below_exprs, fields_in, below_fields, stmts_in, below_stmts, vars_in, vars_of, below_vars, steps_in, below_steps, top_expr, below, signs_behind, below_signs_behind, links_behind, below_links_behind, choices_in, below_choices, targets_in, below_targets}
 use Rattle.qml_syntax.specs.Onto.{Choice, Target, exprs_onto, fields_onto, stmts_onto, vars_onto, steps_onto, stepped, signed_onto, chain_onto, choose_onto, assign_onto}
 use Rattle.qml_syntax.specs.Listed.{end_of, last_sign}
 use Rattle.qml_syntax.specs.Opened.{last_link, node_of, parts_of, exprs_parts, fields_parts, steps_parts, stmts_parts, vars_parts, signs_parts, links_parts, choices_parts, targets_parts}
-
--- parts in the order of writing, on top of those before
-abbrev pub stacked : List Item → Parts → Parts
-stacked [] s = s
-stacked (i ∷ is) s = stacked is (i ∷ s)
+use Rattle.qml_syntax.proofs.DocumentParts.{made_in_document, end_back}
+pub use Rattle.qml_syntax.proofs.DocumentParts.{stacked}
 
 pub exprs_all : (es : Exprs) (s : Parts) → exprs_onto (exprs_in (stacked (exprs_parts es) s)) no_exprs ≡ exprs_onto (exprs_in s) es
 exprs_all no_exprs s = refl
@@ -108,10 +105,6 @@ made_assign no_targets v false t g p z = refl
 made_assign (a_target u h q ts) v true t g p z = made_assign ts v false u h q (of_target true t g p ∷ z)
 made_assign (a_target u h q ts) v false t g p z = made_assign ts v false u h q (of_target false t g p ∷ z)
 
-close_back : (c : Close) → close_of (end_of c) ≡ c
-close_back semi = refl
-close_back auto = refl
-
 made_expr : (e : Expr) (z : Parts) → apply (node_of (of_expr e)) (stacked (parts_of (of_expr e)) z) ≡ of_expr e ∷ z
 made_expr (name n p) z = refl
 made_expr (number n p) z = refl
@@ -135,17 +128,17 @@ made_step (binding p ss) z = made_stmts ss z (λ w. of_step (binding p w))
 
 made_stmt : (d : Stmt) (z : Parts) → apply (node_of (of_stmt d)) (stacked (parts_of (of_stmt d)) z) ≡ of_stmt d ∷ z
 made_stmt (empty p) z = refl
-made_stmt (expr e c) z = ap (λ w. of_stmt (expr e w) ∷ z) (close_back c)
+made_stmt (expr e c) z = ap (λ w. of_stmt (expr e w) ∷ z) (end_back c)
 made_stmt (block p ss) z = made_stmts ss z (λ w. of_stmt (block p w))
-made_stmt (declare p q vs c) z = made_vars vs z (λ w. of_stmt (declare p q w (close_of (end_of c)))) ∙ ap (λ w. of_stmt (declare p q vs w) ∷ z) (close_back c)
+made_stmt (declare p q vs c) z = made_vars vs z (λ w. of_stmt (declare p q w (close_of (end_of c)))) ∙ ap (λ w. of_stmt (declare p q vs w) ∷ z) (end_back c)
 made_stmt (when p e d) z = refl
 made_stmt (either p e d r) z = refl
 made_stmt (while p e d) z = refl
 made_stmt (for p i e f d) z = refl
-made_stmt (give p nothing c) z = ap (λ w. of_stmt (give p nothing w) ∷ z) (close_back c)
-made_stmt (give p (just e) c) z = ap (λ w. of_stmt (give p (just e) w) ∷ z) (close_back c)
-made_stmt (stop p c) z = ap (λ w. of_stmt (stop p w) ∷ z) (close_back c)
-made_stmt (again p c) z = ap (λ w. of_stmt (again p w) ∷ z) (close_back c)
+made_stmt (give p nothing c) z = ap (λ w. of_stmt (give p nothing w) ∷ z) (end_back c)
+made_stmt (give p (just e) c) z = ap (λ w. of_stmt (give p (just e) w) ∷ z) (end_back c)
+made_stmt (stop p c) z = ap (λ w. of_stmt (stop p w) ∷ z) (end_back c)
+made_stmt (again p c) z = ap (λ w. of_stmt (again p w) ∷ z) (end_back c)
 
 pub made : (i : Item) (z : Parts) → apply (node_of i) (stacked (parts_of i) z) ≡ i ∷ z
 made mark z = refl
@@ -164,3 +157,4 @@ made (of_first (first_declare p q vs)) z = made_vars vs z (λ w. of_first (first
 made (of_maybe nothing) z = refl
 made (of_maybe (just e)) z = refl
 made (of_body ss) z = made_stmts ss z (λ w. of_body w)
+made i z = made_in_document i tt z

@@ -11,6 +11,7 @@ use Rattle.qml_syntax.specs.Opened.{last_link, node_of, parts_of, exprs_parts, f
 use Rattle.qml_syntax.specs.Starts.{listed_item, listed_parts}
 use Rattle.qml_syntax.proofs.ListedLemmas.{over, over_step, over_stmt, over_stmts, over_first, over_maybe}
 use Rattle.qml_syntax.proofs.MadeLemmas.{stacked}
+use Rattle.qml_syntax.proofs.OneLevelDocument.{level_in_document, over_in_document}
 
 exprs_row : (es : Exprs) (s : Parts) → listed_exprs es (listed_parts s) ≡ listed_parts (stacked (exprs_parts es) s)
 exprs_row no_exprs s = refl
@@ -99,6 +100,7 @@ one_level (of_first (first_declare p q vs)) s = ap (λ z. node.FirstDeclare p q 
 one_level (of_maybe nothing) s = refl
 one_level (of_maybe (just e)) s = refl
 one_level (of_body ss) s = ap (λ z. node.Body ∷ z) (stmts_row ss (mark ∷ s))
+one_level i s = level_in_document i tt s
 
 pub over_item : (i : Item) (s r : Table) → listed_item i (s ++ r) ≡ listed_item i s ++ r
 over_item mark s r = refl
@@ -114,3 +116,4 @@ over_item (of_var n p) s r = refl
 over_item (of_first i) s r = over_first i s r
 over_item (of_maybe e) s r = over_maybe e s r
 over_item (of_body ss) s r = ap (λ z. node.Body ∷ z) (over_stmts ss (node.Mark ∷ s) r)
+over_item i s r = over_in_document i tt s r

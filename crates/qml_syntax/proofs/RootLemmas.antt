@@ -3,24 +3,30 @@ use Rattle.std.proofs.Common.{◌≡◌, ℕ, ◌+◌, ◌≤◌, List, [], ◌�
 use Rattle.std.proofs.lemmas.List.{reverse-reverse}
 use Rattle.qml_syntax.specs.declared.node.Node.{Node}
 use Rattle.qml_syntax.specs.declared.node.Node.TheVariants as node
-use Rattle.qml_syntax.specs.Tree.{Whole, whole_expr, whole_stmt, whole_body}
-use Rattle.qml_syntax.specs.Nodes.{Item, mark, of_body, Parts, Table, parts_in}
+use Rattle.qml_syntax.specs.Tree.{Whole, whole_expr, whole_stmt, whole_body, whole_document, whole_script}
+use Rattle.qml_syntax.specs.Nodes.{Item, mark, of_body, Parts, Table, parts_in, of_document, of_script}
 use Rattle.qml_syntax.specs.Listed.{listed_whole}
 use Rattle.qml_syntax.specs.Opened.{first, top, item_at, whole_of, only_whole, root_of, whole_in, IsListing}
 use Rattle.qml_syntax.specs.Starts.{AllWhole}
 use Rattle.qml_syntax.proofs.PartsLemmas.{parts, parts_stmt}
 use Rattle.qml_syntax.proofs.WholeLemmas.{parts_item, whole_item, all, all_stmt, all_stmts}
 use Rattle.qml_syntax.proofs.PositionLemmas.{first-all}
+use Rattle.qml_syntax.proofs.WholeDocument.{all_document, all_script}
+use Rattle.qml_syntax.specs.Tree.{document, script}
 
 one_part : (w : Whole) → parts_in (listed_whole w) ≡ root_of w ∷ []
 one_part (whole_expr e) = parts e []
 one_part (whole_stmt d) = parts_stmt d []
 one_part (whole_body ss) = parts_item (of_body ss) []
+one_part (whole_document (document is o)) = parts_item (of_document (document is o)) []
+one_part (whole_script (script b fs)) = parts_item (of_script (script b fs)) []
 
 whole_of_root : (w : Whole) → whole_of (root_of w) ≡ Some w
 whole_of_root (whole_expr e) = refl
 whole_of_root (whole_stmt d) = refl
 whole_of_root (whole_body ss) = refl
+whole_of_root (whole_document d) = refl
+whole_of_root (whole_script s) = refl
 
 pub whole_found : (w : Whole) → whole_in (listed_whole w) ≡ Some w
 whole_found w = ap (λ z. only_whole z) (one_part w) ∙ whole_of_root w
@@ -34,6 +40,8 @@ all_of : (w : Whole) → AllWhole (listed_whole w)
 all_of (whole_expr e) = all e [] tt
 all_of (whole_stmt d) = all_stmt d [] tt
 all_of (whole_body ss) = (whole_item (of_body ss) [] tt, all_stmts ss (node.Mark ∷ []) (whole_item mark [] tt, tt))
+all_of (whole_document d) = all_document d
+all_of (whole_script s) = all_script s
 
 pub listing_all : (t : Table) → IsListing t → AllWhole t
 listing_all t h = subst (λ (z : Table). AllWhole z) (h.1) (all_of (h.0))

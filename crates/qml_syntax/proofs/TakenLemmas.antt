@@ -12,6 +12,7 @@ use Rattle.qml_syntax.specs.Listed.{last_sign}
 use Rattle.qml_syntax.specs.Opened.{last_link, node_of, expr_node, stmt_node, parts_of, exprs_parts, fields_parts, steps_parts, stmts_parts, vars_parts, signs_parts, links_parts, choices_parts, targets_parts}
 use Rattle.qml_syntax.specs.Taken.{taking_of, is_step, past, left}
 use Rattle.qml_syntax.proofs.MadeLemmas.{stacked}
+use Rattle.qml_syntax.proofs.TakenDocument.{left_in_document}
 
 sign_no_mark : (f : Bool) (g : Prefix) (p : Place) (ss : Signs) → is_mark (last_sign f g p ss) ≡ false
 sign_no_mark f g p no_signs = refl
@@ -161,3 +162,4 @@ item_left (of_first (first_declare p q vs)) s = vars_left vs (mark ∷ s)
 item_left (of_maybe nothing) s = refl
 item_left (of_maybe (just e)) s = refl
 item_left (of_body ss) s = stmts_left ss (mark ∷ s)
+item_left i s = left_in_document i tt s

@@ -1,7 +1,5 @@
 -- Going over the nodes of a tree from the last to the first writes the tree out.
-use Rattle.std.proofs.Common.{◌≡◌, Bool, true, false, [], ◌∷◌, ◌++◌, refl, sym, ap, ◌∙◌, append_assoc, length}
-use Rattle.std.specs.Prelude.{reverse}
-use Rattle.std.proofs.lemmas.List.{append-nil, nil_from_length}
+use Rattle.std.proofs.Common.{◌≡◌, Bool, true, false, [], ◌∷◌, ◌++◌, refl, sym, ap, ◌∙◌, append_assoc}
 use Rattle.qml_base.specs.declared.numbers.Place.{Place}
 use Rattle.qml_syntax.specs.declared.token.TokenKind.TheVariants as k
 use Rattle.qml_syntax.specs.declared.mark.Mark.{Mark}
@@ -11,23 +9,23 @@ use Rattle.qml_syntax.specs.declared.word.Word.TheVariants as w
 use Rattle.qml_syntax.specs.declared.operators.Operator.{Operator}
 use Rattle.qml_syntax.specs.declared.operators.Prefix.{Prefix}
 use Rattle.qml_syntax.specs.declared.node.Node.TheVariants as node
-use Rattle.qml_syntax.specs.declared.flat.Parts.TheVariants as part
-use Rattle.qml_syntax.specs.declared.flat.Piece.TheVariants as piece
-use Rattle.qml_syntax.specs.Tree.{Units, Close, semi, auto, Expr, name, number, text, literal, paren, list, fields, steps, bumped, signed, chain, choose, assign, Exprs, no_exprs, an_expr, Fields, no_fields, a_field, Step, member, element, call, binding, Steps, no_steps, a_step, Signs, no_signs, a_sign, Links, no_links, a_link, Choices, no_choices, a_choice, Targets, no_targets, a_target, Stmt, empty, expr, block, declare, when, either, while, for, give, stop, again, Stmts, no_stmts, a_stmt, Vars, last_var, a_var, Maybe, nothing, just, First, no_first, first_expr, first_declare, Whole, whole_expr, whole_stmt, whole_body}
+use Rattle.qml_syntax.specs.declared.writing.Parts.TheVariants as part
+use Rattle.qml_syntax.specs.declared.writing.Piece.TheVariants as piece
+use Rattle.qml_syntax.specs.Tree.{Units, Close, semi, auto, Expr, name, number, text, literal, paren, list, fields, steps, bumped, signed, chain, choose, assign, Exprs, no_exprs, an_expr, Fields, no_fields, a_field, Step, member, element, call, binding, Steps, no_steps, a_step, Signs, no_signs, a_sign, Links, no_links, a_link, Choices, no_choices, a_choice, Targets, no_targets, a_target, Stmt, empty, expr, block, declare, when, either, while, for, give, stop, again, Stmts, no_stmts, a_stmt, Vars, last_var, a_var, Maybe, nothing, just, First, no_first, first_expr, first_declare}
 use Rattle.qml_syntax.specs.Spelling.{operator_mark, prefix_kind, postfix_mark, assignment_mark, literal_word, declaration_word}
 use Rattle.qml_syntax.specs.Nodes.{Table}
-use Rattle.qml_syntax.specs.Listed.{last_sign, listed, listed_choices, listed_exprs, listed_fields, listed_first, listed_give, listed_links, listed_maybe, listed_signs, listed_step, listed_steps, listed_stmt, listed_stmts, listed_targets, listed_value, listed_vars, listed_whole}
-use Rattle.qml_syntax.specs.Flat.{Kinds, comma_if, flat, flat_choices, flat_exprs, flat_fields, flat_first, flat_init, flat_links, flat_maybe, flat_signs, flat_step, flat_steps, flat_stmt, flat_stmts, flat_targets, flat_vars, flat_whole}
+use Rattle.qml_syntax.specs.Listed.{last_sign, listed, listed_choices, listed_exprs, listed_fields, listed_first, listed_give, listed_links, listed_maybe, listed_signs, listed_step, listed_steps, listed_stmt, listed_stmts, listed_targets, listed_value, listed_vars}
+use Rattle.qml_syntax.specs.Flat.{Kinds, comma_if, flat, flat_choices, flat_exprs, flat_fields, flat_first, flat_init, flat_links, flat_maybe, flat_signs, flat_step, flat_steps, flat_stmt, flat_stmts, flat_targets, flat_vars}
 use Rattle.qml_syntax.proofs.WalkHeadLemmas.{Headed, head}
-use Rattle.qml_syntax.specs.WalkFlat.{Pieces, State, next_of, one, is_var, item, vars_stay, steps_stay, opened, flat_from}
+use Rattle.qml_syntax.specs.WalkFlat.{Pieces, one, is_var, item, vars_stay, steps_stay, opened, flat_from}
 
 -- ---- a token in front is written, whatever comes then
 
-mark_next : (s : Table) (x : Mark) (st : Pieces) (acc : Kinds) → flat_from s (piece.Mark x ∷ st, acc) ≡ flat_from s (st, k.Mark x ∷ acc)
+pub mark_next : (s : Table) (x : Mark) (st : Pieces) (acc : Kinds) → flat_from s (piece.Mark x ∷ st, acc) ≡ flat_from s (st, k.Mark x ∷ acc)
 mark_next [] x st acc = refl
 mark_next (n ∷ s) x st acc = refl
 
-word_next : (s : Table) (x : Word) (st : Pieces) (acc : Kinds) → flat_from s (piece.Word x ∷ st, acc) ≡ flat_from s (st, k.Word x ∷ acc)
+pub word_next : (s : Table) (x : Word) (st : Pieces) (acc : Kinds) → flat_from s (piece.Word x ∷ st, acc) ≡ flat_from s (st, k.Word x ∷ acc)
 word_next [] x st acc = refl
 word_next (n ∷ s) x st acc = refl
 
@@ -35,7 +33,7 @@ prefix_next : (s : Table) (x : Prefix) (st : Pieces) (acc : Kinds) → flat_from
 prefix_next [] x st acc = refl
 prefix_next (n ∷ s) x st acc = refl
 
-then_kinds : (s : Table) (st : Pieces) {a b : Kinds} → a ≡ b → flat_from s (st, a) ≡ flat_from s (st, b)
+pub then_kinds : (s : Table) (st : Pieces) {a b : Kinds} → a ≡ b → flat_from s (st, a) ≡ flat_from s (st, b)
 then_kinds s st p = ap (λ (z : Kinds). flat_from s (st, z)) p
 
 -- ---- an expression as one of some parts
@@ -202,18 +200,3 @@ mutual
   first_written no_first s st acc = refl
   first_written (first_expr e) s st acc = written e s st acc
   first_written (first_declare p q vs) s st acc = vars_written vs (node.Mark ∷ s) (piece.Word (declaration_word q) ∷ st) acc ∙ word_next s (declaration_word q) st (flat_vars vs ++ acc)
-
--- what is written of the nodes of a whole
-pub whole_written : (x : Whole) → flat_from (listed_whole x) (one ∷ [], []) ≡ flat_whole x
-whole_written (whole_expr e) = written e [] [] [] ∙ append-nil (flat e)
-whole_written (whole_stmt d) = stmt_written d [] [] [] ∙ append-nil (flat_stmt d)
-whole_written (whole_body ss) = stmts_written ss (node.Mark ∷ []) [] [] ∙ append-nil (flat_stmts ss)
-
--- where no node is left
-pub all_written : (left nodes : Table) (state : State) (kinds : Kinds) (x : Whole) → length left ≡ 0 → flat_from (reverse left) state ≡ flat_from nodes (one ∷ [], []) → kinds ≡ (next_of state.0 state.1).2 → nodes ≡ listed_whole x → kinds ≡ flat_whole x
-all_written left nodes state kinds x e f g h =
-    g
-    ∙ sym (ap (λ (z : Table). flat_from (reverse z) state) (nil_from_length left e))
-    ∙ f
-    ∙ ap (λ (z : Table). flat_from z (one ∷ [], [])) h
-    ∙ whole_written x

@@ -1,19 +1,17 @@
 -- Going over the nodes of a tree from the last to the first finds each node with how deep it stands.
 use Rattle.std.proofs.Common.{◌≡◌, ℕ, ◌+◌, ◌≤◌, Bool, true, false, [], ◌∷◌, ◌++◌, refl, sym, ap, ◌∙◌, append_assoc, length, arith}
-use Rattle.std.specs.Prelude.{reverse}
-use Rattle.std.proofs.lemmas.List.{append-nil, nil_from_length}
 use Rattle.qml_base.specs.declared.numbers.Place.{Place}
 use Rattle.qml_syntax.specs.declared.operators.Operator.{Operator}
 use Rattle.qml_syntax.specs.declared.operators.Prefix.{Prefix}
 use Rattle.qml_syntax.specs.declared.node.Node.TheVariants as node
 use Rattle.qml_syntax.specs.declared.deep.Parts.TheVariants as part
 use Rattle.qml_syntax.specs.declared.deep.Task.TheVariants as task
-use Rattle.qml_syntax.specs.Tree.{Units, Close, Expr, name, number, text, literal, paren, list, fields, steps, bumped, signed, chain, choose, assign, Exprs, no_exprs, an_expr, Fields, no_fields, a_field, Step, member, element, call, binding, Steps, no_steps, a_step, Signs, no_signs, a_sign, Links, no_links, a_link, Choices, no_choices, a_choice, Targets, no_targets, a_target, Stmt, empty, expr, block, declare, when, either, while, for, give, stop, again, Stmts, no_stmts, a_stmt, Vars, last_var, a_var, Maybe, nothing, just, First, no_first, first_expr, first_declare, Whole, whole_expr, whole_stmt, whole_body}
+use Rattle.qml_syntax.specs.Tree.{Units, Close, Expr, name, number, text, literal, paren, list, fields, steps, bumped, signed, chain, choose, assign, Exprs, no_exprs, an_expr, Fields, no_fields, a_field, Step, member, element, call, binding, Steps, no_steps, a_step, Signs, no_signs, a_sign, Links, no_links, a_link, Choices, no_choices, a_choice, Targets, no_targets, a_target, Stmt, empty, expr, block, declare, when, either, while, for, give, stop, again, Stmts, no_stmts, a_stmt, Vars, last_var, a_var, Maybe, nothing, just, First, no_first, first_expr, first_declare}
 use Rattle.qml_syntax.specs.Nodes.{Table}
-use Rattle.qml_syntax.specs.Listed.{last_sign, listed, listed_choices, listed_exprs, listed_fields, listed_first, listed_give, listed_links, listed_maybe, listed_signs, listed_step, listed_steps, listed_stmt, listed_stmts, listed_targets, listed_value, listed_vars, listed_whole}
+use Rattle.qml_syntax.specs.Listed.{last_sign, listed, listed_choices, listed_exprs, listed_fields, listed_first, listed_give, listed_links, listed_maybe, listed_signs, listed_step, listed_steps, listed_stmt, listed_stmts, listed_targets, listed_value, listed_vars}
 use Rattle.qml_syntax.specs.Depth.{place_of}
-use Rattle.qml_syntax.specs.Standing.{Nodes, stands, nodes, nodes_exprs, nodes_fields, nodes_step, nodes_steps, nodes_links, nodes_choices, nodes_targets, nodes_stmt, nodes_stmts, nodes_vars, nodes_maybe, nodes_first, nodes_whole}
-use Rattle.qml_syntax.specs.WalkStanding.{Tasks, State, one, many, begun, depth, first_place, next_of, in_many, in_steps, found_from}
+use Rattle.qml_syntax.specs.Standing.{Nodes, stands, nodes, nodes_exprs, nodes_fields, nodes_step, nodes_steps, nodes_links, nodes_choices, nodes_targets, nodes_stmt, nodes_stmts, nodes_vars, nodes_maybe, nodes_first}
+use Rattle.qml_syntax.specs.WalkStanding.{Tasks, one, many, begun, depth, first_place, in_many, in_steps, found_from}
 use Rattle.qml_syntax.proofs.WalkHeadLemmas.{Headed, head}
 
 pub depth_within : (x : Tasks) → depth x ≤ length x
@@ -21,13 +19,14 @@ depth_within [] = omega arith
 depth_within (task.Node p ∷ x) = omega (arith, depth_within x)
 depth_within (task.Led ∷ x) = omega (arith, depth_within x)
 depth_within (task.Parts part.Signs ∷ x) = omega (arith, depth_within x)
+depth_within (task.Parts part.Named ∷ x) = omega (arith, depth_within x)
 depth_within (task.Parts part.One ∷ x) = omega (arith, depth_within x)
 depth_within (task.Parts part.Many ∷ x) = omega (arith, depth_within x)
 depth_within (task.Parts part.Steps ∷ x) = omega (arith, depth_within x)
 
 -- ---- a node in front is found, whatever comes then
 
-node_next : (s : Table) (p : Place) (st : Tasks) (acc : Nodes) → found_from s (task.Node p ∷ st, acc) ≡ found_from s (st, stands (depth st + 1) p ∷ acc)
+pub node_next : (s : Table) (p : Place) (st : Tasks) (acc : Nodes) → found_from s (task.Node p ∷ st, acc) ≡ found_from s (st, stands (depth st + 1) p ∷ acc)
 node_next [] p st acc = refl
 node_next (n ∷ s) p st acc = refl
 
@@ -35,7 +34,7 @@ led_next : (s : Table) (st : Tasks) (acc : Nodes) → found_from s (task.Led ∷
 led_next [] st acc = refl
 led_next (n ∷ s) st acc = refl
 
-then_nodes : (s : Table) (st : Tasks) {a b : Nodes} → a ≡ b → found_from s (st, a) ≡ found_from s (st, b)
+pub then_nodes : (s : Table) (st : Tasks) {a b : Nodes} → a ≡ b → found_from s (st, a) ≡ found_from s (st, b)
 then_nodes s st p = ap (λ (z : Nodes). found_from s (st, z)) p
 
 leads : (e : Expr) (d : ℕ) (acc : Nodes) → first_place (nodes d e ++ acc) ≡ place_of e
@@ -184,18 +183,3 @@ mutual
   first_found no_first s st acc = refl
   first_found (first_expr e) s st acc = found e s st acc
   first_found (first_declare p q vs) s st acc = vars_found vs (node.Mark ∷ s) (task.Node p ∷ st) acc ∙ node_next s p st (nodes_vars (depth st + 1 + 1) vs ++ acc)
-
--- the nodes of a whole
-whole_found : (x : Whole) → found_from (listed_whole x) (one ∷ [], []) ≡ nodes_whole x
-whole_found (whole_expr e) = found e [] [] [] ∙ append-nil (nodes 1 e)
-whole_found (whole_stmt d) = stmt_found d [] [] [] ∙ append-nil (nodes_stmt 1 d)
-whole_found (whole_body ss) = stmts_found ss (node.Mark ∷ []) [] [] ∙ append-nil (nodes_stmts 1 ss)
-
--- where no node is left
-pub all_found : (left all : Table) (state : State) (result : Nodes) (x : Whole) → length left ≡ 0 → found_from (reverse left) state ≡ found_from all (one ∷ [], []) → result ≡ (next_of state.0 state.1).2 → all ≡ listed_whole x → result ≡ nodes_whole x
-all_found left all state result x e f g h =
-    g
-    ∙ sym (ap (λ (z : Table). found_from (reverse z) state) (nil_from_length left e))
-    ∙ f
-    ∙ ap (λ (z : Table). found_from z (one ∷ [], [])) h
-    ∙ whole_found x

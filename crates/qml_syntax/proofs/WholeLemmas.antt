@@ -10,6 +10,7 @@ use Rattle.qml_syntax.specs.Listed.{listed, listed_exprs, listed_fields, listed_
 use Rattle.qml_syntax.specs.Starts.{listed_item, listed_parts, AllWhole}
 use Rattle.qml_syntax.proofs.PartsLemmas.{parts, parts_step, parts_stmt, parts_stmts, parts_first, parts_maybe}
 use Rattle.qml_syntax.proofs.MadeLemmas.{made}
+use Rattle.qml_syntax.proofs.DocumentPartsFound.{parts_in_document}
 
 pub parts_item : (i : Item) (s : Table) → parts_in (listed_item i s) ≡ i ∷ parts_in s
 parts_item mark s = refl
@@ -25,6 +26,7 @@ parts_item (of_var n p) s = refl
 parts_item (of_first i) s = parts_first i s
 parts_item (of_maybe e) s = parts_maybe e s
 parts_item (of_body ss) s = ap (λ z. apply node.Body z) (parts_stmts ss (node.Mark ∷ s)) ∙ made (of_body ss) (parts_in s)
+parts_item i s = parts_in_document i tt s
 
 pub whole : (s : Table) → AllWhole s → listed_parts (parts_in s) ≡ s
 whole [] h = refl

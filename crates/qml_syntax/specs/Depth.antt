@@ -1,8 +1,8 @@
 -- Where a node stands deeper than 100: the first token of the first such node. An expression statement is no node of
 -- its own, a chain of operators of one level is one node, and the function of a `Qt.binding` is a node.
-use Rattle.std.specs.Prelude.{ℕ, ◌+◌, Option, Some, None, nat_lt, if◌then◌else◌}
+use Rattle.std.specs.Prelude.{ℕ, ◌+◌, List, [], ◌∷◌, Option, Some, None, nat_lt, if◌then◌else◌}
 use Rattle.qml_base.specs.declared.numbers.Place.{Place}
-use Rattle.qml_syntax.specs.Tree.{Expr, name, number, text, literal, paren, list, fields, steps, bumped, signed, chain, choose, assign, Exprs, no_exprs, an_expr, Fields, no_fields, a_field, Step, member, element, call, binding, Steps, no_steps, a_step, Links, no_links, a_link, Choices, no_choices, a_choice, Targets, no_targets, a_target, Stmt, empty, expr, block, declare, when, either, while, for, give, stop, again, Stmts, no_stmts, a_stmt, Vars, last_var, a_var, Maybe, nothing, just, First, no_first, first_expr, first_declare, Whole, whole_expr, whole_stmt, whole_body}
+use Rattle.qml_syntax.specs.Tree.{Expr, name, number, text, literal, paren, list, fields, steps, bumped, signed, chain, choose, assign, Exprs, no_exprs, an_expr, Fields, no_fields, a_field, Step, member, element, call, binding, Steps, no_steps, a_step, Links, no_links, a_link, Choices, no_choices, a_choice, Targets, no_targets, a_target, Stmt, empty, expr, block, declare, when, either, while, for, give, stop, again, Stmts, no_stmts, a_stmt, Vars, last_var, a_var, Maybe, nothing, just, First, no_first, first_expr, first_declare, Whole, whole_expr, whole_stmt, whole_body, TypeName, own_type, type_of, Function, function, Object, object, Members, no_members, a_member, Member, id, property, bare, alias, signal, method, given, group, child, Value, value_object, value_list, value_stmt, Objects, last_object, an_object, Document, document, Script, script, whole_document, whole_script}
 
 abbrev pub Found : Type 0
 Found = Option Place
@@ -119,8 +119,61 @@ abbrev mutual
   deep_first d (first_expr e) = deep d e
   deep_first d (first_declare p q vs) = if nat_lt 100 d then Some p else deep_vars (d + 1) vs
 
--- where a node stands deeper than 100; an expression, a statement and each statement of a list has depth 1
+-- ---- documents and script files: a member's value, a group, a child object and a function are one deeper than their
+-- object, a list of objects is a value, and its objects are one deeper than it
+
+abbrev pub place_of_type : TypeName → Place
+place_of_type (own_type n p) = p
+place_of_type (type_of q p n) = p
+
+-- its block is no node
+abbrev pub deep_function : ℕ → Function → Found
+deep_function d (function p n r ps q ss) = if nat_lt 100 d then Some p else deep_stmts (d + 1) ss
+
+abbrev mutual
+  pub deep_object : ℕ → Object → Found
+  deep_object d (object x ms) = if nat_lt 100 d then Some (place_of_type x) else deep_members (d + 1) ms
+
+  -- members at this depth
+  pub deep_members : ℕ → Members → Found
+  deep_members d no_members = None
+  deep_members d (a_member x s ms) = deep_member d x or deep_members d ms
+
+  pub deep_member : ℕ → Member → Found
+  deep_member d (id p n r c) = None
+  deep_member d (property p a q n r v) = deep_value d v
+  deep_member d (bare p a q n r c) = None
+  deep_member d (alias p b n r t z ns c) = None
+  deep_member d (signal p n r ps c) = None
+  deep_member d (method f) = deep_function d f
+  deep_member d (given n p ns v) = deep_value d v
+  deep_member d (group n p ns ms) = if nat_lt 100 d then Some p else deep_members (d + 1) ms
+  deep_member d (child o) = deep_object d o
+
+  pub deep_value : ℕ → Value → Found
+  deep_value d (value_object o) = deep_object d o
+  deep_value d (value_list p os) = if nat_lt 100 d then Some p else deep_objects (d + 1) os
+  deep_value d (value_stmt s) = deep_stmt d s
+
+  pub deep_objects : ℕ → Objects → Found
+  deep_objects d (last_object o) = deep_object d o
+  deep_objects d (an_object o os) = deep_object d o or deep_objects d os
+
+abbrev pub deep_document : Document → Found
+deep_document (document is o) = deep_object 1 o
+
+abbrev pub deep_functions : List Function → Found
+deep_functions [] = None
+deep_functions (f ∷ fs) = deep_function 1 f or deep_functions fs
+
+abbrev pub deep_script : Script → Found
+deep_script (script b fs) = deep_functions fs
+
+-- where a node stands deeper than 100; an expression, a statement, each statement of a list, the root object and each
+-- function of a script file has depth 1
 abbrev pub deep_whole : Whole → Found
 deep_whole (whole_expr e) = deep 1 e
 deep_whole (whole_stmt s) = deep_stmt 1 s
 deep_whole (whole_body ss) = deep_stmts 1 ss
+deep_whole (whole_document d) = deep_document d
+deep_whole (whole_script s) = deep_script s

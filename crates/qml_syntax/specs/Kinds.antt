@@ -36,3 +36,41 @@ is_of_statement (node.Stop p c) = true
 is_of_statement (node.Again p c) = true
 is_of_statement node.Body = true
 is_of_statement _ = false
+
+-- of paths, imports, kinds and functions
+abbrev pub is_named : Node → Bool
+is_named (node.First a b) = true
+is_named (node.Dot a) = true
+is_named (node.File a b) = true
+is_named node.Plain = true
+is_named (node.Qualifier a) = true
+is_named (node.ImportModule a b) = true
+is_named (node.ImportFile a) = true
+is_named node.KindVar = true
+is_named node.KindName = true
+is_named (node.KindList a b) = true
+is_named node.NoKind = true
+is_named (node.ParameterName a) = true
+is_named node.Parameter = true
+is_named (node.SignalParameter a) = true
+is_named (node.Function a) = true
+is_named _ = false
+
+-- of objects and their members, and of whole files
+abbrev pub is_of_object : Node → Bool
+is_of_object (node.Id a b) = true
+is_of_object (node.Property a b) = true
+is_of_object (node.Bare a b c) = true
+is_of_object (node.Alias a b c) = true
+is_of_object (node.Signal a b) = true
+is_of_object (node.SignalWith a b) = true
+is_of_object node.Method = true
+is_of_object node.Given = true
+is_of_object node.Group = true
+is_of_object node.Child = true
+is_of_object node.Semi = true
+is_of_object node.Object = true
+is_of_object (node.ObjectList a) = true
+is_of_object node.Document = true
+is_of_object (node.Script a) = true
+is_of_object _ = false

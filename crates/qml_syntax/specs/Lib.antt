@@ -4,6 +4,8 @@ pub mod Levels
 pub mod Ends
 pub mod Reads
 pub mod Onto
+pub mod Words
+pub mod ReadsDocument
 pub mod Nodes
 pub mod Flat
 pub mod Depth
@@ -11,6 +13,7 @@ pub mod Standing
 pub mod Listed
 pub mod Opened
 pub mod Starts
+pub mod Places
 pub mod Taken
 pub mod WalkFlat
 pub mod WalkStanding

@@ -1,5 +1,5 @@
 -- The nodes of a tree, children before their parents, on top of those before. The latest node stands in front.
-use Rattle.std.specs.Prelude.{Bool, true, false, [], ◌∷◌}
+use Rattle.std.specs.Prelude.{Bool, true, false, List, [], ◌∷◌, Option, Some, None}
 use Rattle.qml_base.specs.declared.numbers.Place.{Place}
 use Rattle.qml_syntax.specs.declared.operators.Operator.{Operator}
 use Rattle.qml_syntax.specs.declared.operators.Prefix.{Prefix}
@@ -7,7 +7,7 @@ use Rattle.qml_syntax.specs.declared.node.Close as code
 use Rattle.qml_syntax.specs.declared.node.Close.TheVariants as end
 use Rattle.qml_syntax.specs.declared.node.Node.{Node}
 use Rattle.qml_syntax.specs.declared.node.Node.TheVariants as node
-use Rattle.qml_syntax.specs.Tree.{Close, semi, auto, Expr, name, number, text, literal, paren, list, fields, steps, bumped, signed, chain, choose, assign, Exprs, no_exprs, an_expr, Fields, no_fields, a_field, Step, member, element, call, binding, Steps, no_steps, a_step, Signs, no_signs, a_sign, Links, no_links, a_link, Choices, no_choices, a_choice, Targets, no_targets, a_target, Stmt, empty, expr, block, declare, when, either, while, for, give, stop, again, Stmts, no_stmts, a_stmt, Vars, last_var, a_var, Maybe, nothing, just, First, no_first, first_expr, first_declare, Whole, whole_expr, whole_stmt, whole_body}
+use Rattle.qml_syntax.specs.Tree.{Close, semi, auto, Expr, name, number, text, literal, paren, list, fields, steps, bumped, signed, chain, choose, assign, Exprs, no_exprs, an_expr, Fields, no_fields, a_field, Step, member, element, call, binding, Steps, no_steps, a_step, Signs, no_signs, a_sign, Links, no_links, a_link, Choices, no_choices, a_choice, Targets, no_targets, a_target, Stmt, empty, expr, block, declare, when, either, while, for, give, stop, again, Stmts, no_stmts, a_stmt, Vars, last_var, a_var, Maybe, nothing, just, First, no_first, first_expr, first_declare, Whole, whole_expr, whole_stmt, whole_body, Units, Names, Import, import_module, import_text, TypeName, own_type, type_of, Kind, kind_var, kind_name, kind_list, Pars, no_pars, a_par, Function, function, SignalPars, no_signal_pars, a_signal_par, Object, object, Members, no_members, a_member, Member, id, property, bare, alias, signal, method, given, group, child, Value, value_object, value_list, value_stmt, Objects, last_object, an_object, Document, document, Script, script, whole_document, whole_script}
 use Rattle.qml_syntax.specs.Nodes.{Table}
 
 abbrev pub end_of : Close → code.Close
@@ -108,8 +108,99 @@ abbrev mutual
   listed_first (first_expr e) s = node.FirstExpression ∷ listed e s
   listed_first (first_declare p q vs) s = node.FirstDeclare p q ∷ listed_vars vs (node.Mark ∷ s)
 
+-- ---- documents and script files
+
+abbrev pub listed_dots : Names → Table → Table
+listed_dots [] s = s
+listed_dots (n ∷ ns) s = listed_dots ns (node.Dot n ∷ s)
+
+abbrev pub listed_type : TypeName → Table → Table
+listed_type (own_type n p) s = node.First n p ∷ s
+listed_type (type_of q p n) s = node.Dot n ∷ node.First q p ∷ s
+
+abbrev pub listed_kind : Kind → Table → Table
+listed_kind kind_var s = node.KindVar ∷ s
+listed_kind (kind_name n p ns) s = node.KindName ∷ listed_dots ns (node.First n p ∷ s)
+listed_kind (kind_list n p) s = node.KindList n p ∷ s
+
+abbrev pub listed_qualifier : Option Units → Table → Table
+listed_qualifier None s = node.Plain ∷ s
+listed_qualifier (Some q) s = node.Qualifier q ∷ s
+
+abbrev pub listed_import : Import → Table → Table
+listed_import (import_module n p ns v q c) s = node.ImportModule v (end_of c) ∷ listed_qualifier q (listed_dots ns (node.First n p ∷ s))
+listed_import (import_text n p q c) s = node.ImportFile (end_of c) ∷ listed_qualifier q (node.File n p ∷ s)
+
+abbrev pub listed_imports : List Import → Table → Table
+listed_imports [] s = s
+listed_imports (i ∷ is) s = listed_imports is (listed_import i s)
+
+abbrev pub listed_par_kind : Option Kind → Table → Table
+listed_par_kind None s = node.NoKind ∷ s
+listed_par_kind (Some q) s = listed_kind q s
+
+abbrev pub listed_pars : Pars → Table → Table
+listed_pars no_pars s = s
+listed_pars (a_par n q ps) s = listed_pars ps (node.Parameter ∷ listed_par_kind q (node.ParameterName n ∷ s))
+
+abbrev pub listed_function : Function → Table → Table
+listed_function (function p n r ps q ss) s = node.Function p ∷ node.Body ∷ listed_stmts ss (node.Mark ∷ listed_par_kind q (listed_pars ps (node.Mark ∷ node.First n r ∷ s)))
+
+abbrev pub listed_functions : List Function → Table → Table
+listed_functions [] s = s
+listed_functions (f ∷ fs) s = listed_functions fs (listed_function f s)
+
+abbrev pub listed_signal_pars : SignalPars → Table → Table
+listed_signal_pars no_signal_pars s = s
+listed_signal_pars (a_signal_par q n ps) s = listed_signal_pars ps (node.SignalParameter n ∷ listed_kind q s)
+
+abbrev pub listed_signal : Place → Option SignalPars → Close → Table → Table
+listed_signal p None c s = node.Signal p (end_of c) ∷ s
+listed_signal p (Some ps) c s = node.SignalWith p (end_of c) ∷ listed_signal_pars ps (node.Mark ∷ s)
+
+abbrev pub listed_semi : Bool → Table → Table
+listed_semi true s = node.Semi ∷ s
+listed_semi false s = s
+
+abbrev mutual
+  pub listed_object : Object → Table → Table
+  listed_object (object x ms) s = node.Object ∷ listed_members ms (node.Mark ∷ listed_type x s)
+
+  pub listed_members : Members → Table → Table
+  listed_members no_members s = s
+  listed_members (a_member x b ms) s = listed_members ms (listed_semi b (listed_member x s))
+
+  pub listed_member : Member → Table → Table
+  listed_member (id p n r c) s = node.Id p (end_of c) ∷ node.First n r ∷ s
+  listed_member (property p d q n r v) s = node.Property p d ∷ listed_content v (node.First n r ∷ listed_kind q s)
+  listed_member (bare p d q n r c) s = node.Bare p d (end_of c) ∷ node.First n r ∷ listed_kind q s
+  listed_member (alias p d n r t z ns c) s = node.Alias p d (end_of c) ∷ listed_dots ns (node.First t z ∷ node.First n r ∷ s)
+  listed_member (signal p n r ps c) s = listed_signal p ps c (node.First n r ∷ s)
+  listed_member (method f) s = node.Method ∷ listed_function f s
+  listed_member (given n p ns v) s = node.Given ∷ listed_content v (listed_dots ns (node.First n p ∷ s))
+  listed_member (group n p ns ms) s = node.Group ∷ listed_members ms (node.Mark ∷ listed_dots ns (node.First n p ∷ s))
+  listed_member (child o) s = node.Child ∷ listed_object o s
+
+  -- a member's value
+  pub listed_content : Value → Table → Table
+  listed_content (value_object o) s = listed_object o s
+  listed_content (value_list p os) s = node.ObjectList p ∷ listed_objects os (node.Mark ∷ s)
+  listed_content (value_stmt d) s = listed_stmt d s
+
+  pub listed_objects : Objects → Table → Table
+  listed_objects (last_object o) s = listed_object o s
+  listed_objects (an_object o os) s = listed_objects os (listed_object o s)
+
+abbrev pub listed_document : Document → Table
+listed_document (document is o) = node.Document ∷ listed_object o (listed_imports is (node.Mark ∷ []))
+
+abbrev pub listed_script : Script → Table
+listed_script (script b fs) = node.Script b ∷ listed_functions fs (node.Mark ∷ [])
+
 -- the nodes of a whole
 abbrev pub listed_whole : Whole → Table
 listed_whole (whole_expr e) = listed e []
 listed_whole (whole_stmt d) = listed_stmt d []
 listed_whole (whole_body ss) = node.Body ∷ listed_stmts ss (node.Mark ∷ [])
+listed_whole (whole_document d) = listed_document d
+listed_whole (whole_script s) = listed_script s

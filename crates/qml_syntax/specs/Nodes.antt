@@ -1,5 +1,5 @@
 -- Nodes of trees, children before their parents, as the parts that they leave.
-use Rattle.std.specs.Prelude.{Bool, true, false, List, [], ◌∷◌}
+use Rattle.std.specs.Prelude.{Bool, true, false, List, [], ◌∷◌, Option, Some, None}
 use Rattle.qml_base.specs.declared.numbers.Place.{Place}
 use Rattle.qml_syntax.specs.declared.operators.Operator.{Operator}
 use Rattle.qml_syntax.specs.declared.operators.Prefix.{Prefix}
@@ -8,8 +8,9 @@ use Rattle.qml_syntax.specs.declared.node.Close as code
 use Rattle.qml_syntax.specs.declared.node.Close.TheVariants as end
 use Rattle.qml_syntax.specs.declared.node.Node.{Node}
 use Rattle.qml_syntax.specs.declared.node.Node.TheVariants as node
-use Rattle.qml_syntax.specs.Tree.{Units, Close, semi, auto, Expr, name, number, text, literal, paren, list, fields, bumped, no_exprs, no_fields, Step, member, element, call, binding, no_signs, no_links, no_choices, no_targets, Stmt, empty, expr, block, declare, when, either, while, for, give, stop, again, Stmts, no_stmts, Vars, last_var, Maybe, nothing, just, First, no_first, first_expr, first_declare}
+use Rattle.qml_syntax.specs.Tree.{Units, Close, semi, auto, Expr, name, number, text, literal, paren, list, fields, bumped, no_exprs, no_fields, Step, member, element, call, binding, no_signs, no_links, no_choices, no_targets, Stmt, empty, expr, block, declare, when, either, while, for, give, stop, again, Stmts, no_stmts, Vars, last_var, Maybe, nothing, just, First, no_first, first_expr, first_declare, Names, Import, import_module, import_text, TypeName, own_type, type_of, Kind, kind_var, kind_name, kind_list, no_pars, Function, function, no_signal_pars, Object, object, no_members, Member, id, property, bare, alias, signal, method, given, group, child, Value, value_object, value_list, value_stmt, Objects, last_object, Document, document, Script, script}
 use Rattle.qml_syntax.specs.Onto.{Field, Sign, Link, Choice, Target, Var, exprs_onto, fields_onto, stepped, signed_onto, chain_onto, choose_onto, assign_onto, vars_onto, stmts_onto}
+use Rattle.qml_syntax.specs.Onto.{Row, Par, SignalPar, onto, members_onto, objects_onto, pars_onto, signal_pars_onto}
 
 -- a part that no node has taken
 pub data Item : Type 0 where
@@ -26,6 +27,21 @@ pub data Item : Type 0 where
   of_first : First → Item
   of_maybe : Maybe → Item
   of_body : Stmts → Item
+  of_name : Units → Place → Item  -- the first of a path, or one that is declared
+  of_dot : Units → Item
+  of_file : Units → Place → Item
+  of_qualifier : Option Units → Item
+  of_import : Import → Item
+  of_kind : Option Kind → Item
+  of_par_name : Units → Item
+  of_par : Units → Option Kind → Item
+  of_signal_par : Kind → Units → Item
+  of_function : Function → Item
+  of_member : Member → Bool → Item  -- with a `;` behind it or not
+  of_object : Object → Item
+  of_objects : Place → Objects → Item
+  of_document : Document → Item
+  of_script : Script → Item
 
 -- the latest part in front
 abbrev pub Parts : Type 0
@@ -177,11 +193,170 @@ abbrev pub assign_of : List Target → Expr → Expr
 assign_of [] v = v
 assign_of (x ∷ back) v = assign_onto back x.0 x.1 x.2 no_targets v
 
+-- ---- parts of documents and script files
+
+abbrev pub no_object : Object
+no_object = object (own_type [] (record { line = 0; column = 0 })) no_members
+
+abbrev pub top_name : Parts → Units × Place
+top_name (of_name n p ∷ s) = (n, p)
+top_name _ = ([], record { line = 0; column = 0 })
+
+abbrev pub top_file : Parts → Units × Place
+top_file (of_file n p ∷ s) = (n, p)
+top_file _ = ([], record { line = 0; column = 0 })
+
+abbrev pub top_qualifier : Parts → Option Units
+top_qualifier (of_qualifier q ∷ s) = q
+top_qualifier _ = None
+
+abbrev pub top_kind : Parts → Option Kind
+top_kind (of_kind q ∷ s) = q
+top_kind _ = None
+
+abbrev pub some_kind : Option Kind → Kind
+some_kind (Some q) = q
+some_kind None = kind_var
+
+abbrev pub top_par_name : Parts → Units
+top_par_name (of_par_name n ∷ s) = n
+top_par_name _ = []
+
+abbrev pub top_body : Parts → Stmts
+top_body (of_body ss ∷ s) = ss
+top_body _ = no_stmts
+
+abbrev pub top_function : Parts → Function
+top_function (of_function f ∷ s) = f
+top_function _ = function (record { line = 0; column = 0 }) [] (record { line = 0; column = 0 }) no_pars None no_stmts
+
+abbrev pub top_member : Parts → Member
+top_member (of_member x b ∷ s) = x
+top_member _ = child no_object
+
+abbrev pub top_object : Parts → Object
+top_object (of_object o ∷ s) = o
+top_object _ = no_object
+
+abbrev pub top_value : Parts → Value
+top_value (of_object o ∷ s) = value_object o
+top_value (of_objects p os ∷ s) = value_list p os
+top_value s = value_stmt (top_stmt s)
+
+-- a path: its first name and those behind dots
+abbrev pub dots_in : Parts → List Units
+dots_in (of_dot n ∷ s) = n ∷ dots_in s
+dots_in _ = []
+
+abbrev pub below_dots : Parts → Parts
+below_dots (of_dot n ∷ s) = below_dots s
+below_dots s = s
+
+abbrev pub path_in : Parts → (Units × Place) × Names
+path_in s = (top_name (below_dots s), onto (dots_in s) [])
+
+abbrev pub below_path : Parts → Parts
+below_path s = below (below_dots s)
+
+abbrev pub type_named : (Units × Place) × Names → TypeName
+type_named (x, []) = own_type x.0 x.1
+type_named (x, n ∷ ns) = type_of x.0 x.1 n
+
+abbrev pub imports_in : Parts → List Import
+imports_in (of_import i ∷ s) = i ∷ imports_in s
+imports_in _ = []
+
+abbrev pub below_imports : Parts → Parts
+below_imports (of_import i ∷ s) = below_imports s
+below_imports s = below s
+
+abbrev pub pars_in : Parts → List Par
+pars_in (of_par n q ∷ s) = (n, q) ∷ pars_in s
+pars_in _ = []
+
+abbrev pub below_pars : Parts → Parts
+below_pars (of_par n q ∷ s) = below_pars s
+below_pars s = below s
+
+abbrev pub signal_pars_in : Parts → List SignalPar
+signal_pars_in (of_signal_par q n ∷ s) = (q, n) ∷ signal_pars_in s
+signal_pars_in _ = []
+
+abbrev pub below_signal_pars : Parts → Parts
+below_signal_pars (of_signal_par q n ∷ s) = below_signal_pars s
+below_signal_pars s = below s
+
+abbrev pub functions_in : Parts → List Function
+functions_in (of_function f ∷ s) = f ∷ functions_in s
+functions_in _ = []
+
+abbrev pub below_functions : Parts → Parts
+below_functions (of_function f ∷ s) = below_functions s
+below_functions s = below s
+
+abbrev pub members_in : Parts → List Row
+members_in (of_member x b ∷ s) = (x, b) ∷ members_in s
+members_in _ = []
+
+abbrev pub below_members : Parts → Parts
+below_members (of_member x b ∷ s) = below_members s
+below_members s = below s
+
+abbrev pub objects_in : Parts → List Object
+objects_in (of_object o ∷ s) = o ∷ objects_in s
+objects_in _ = []
+
+abbrev pub below_objects : Parts → Parts
+below_objects (of_object o ∷ s) = below_objects s
+below_objects s = below s
+
+abbrev pub objects_of : List Object → Objects
+objects_of [] = last_object no_object
+objects_of (o ∷ back) = objects_onto back (last_object o)
+
 -- ---- what a node does to the parts
 
 abbrev pub close_of : code.Close → Close
 close_of end.Semi = semi
 close_of end.Auto = auto
+
+-- a node of a path, an import, a kind or a function
+abbrev pub apply_named : Node → Parts → Parts
+apply_named (node.First n p) s = of_name n p ∷ s
+apply_named (node.Dot n) s = of_dot n ∷ s
+apply_named (node.File n p) s = of_file n p ∷ s
+apply_named node.Plain s = of_qualifier None ∷ s
+apply_named (node.Qualifier n) s = of_qualifier (Some n) ∷ s
+apply_named (node.ImportModule v c) s = of_import (import_module (path_in (below s)).0.0 (path_in (below s)).0.1 (path_in (below s)).1 v (top_qualifier s) (close_of c)) ∷ below_path (below s)
+apply_named (node.ImportFile c) s = of_import (import_text (top_file (below s)).0 (top_file (below s)).1 (top_qualifier s) (close_of c)) ∷ below (below s)
+apply_named node.KindVar s = of_kind (Some kind_var) ∷ s
+apply_named node.KindName s = of_kind (Some (kind_name (path_in s).0.0 (path_in s).0.1 (path_in s).1)) ∷ below_path s
+apply_named (node.KindList n p) s = of_kind (Some (kind_list n p)) ∷ s
+apply_named node.NoKind s = of_kind None ∷ s
+apply_named (node.ParameterName n) s = of_par_name n ∷ s
+apply_named node.Parameter s = of_par (top_par_name (below s)) (top_kind s) ∷ below (below s)
+apply_named (node.SignalParameter n) s = of_signal_par (some_kind (top_kind s)) n ∷ below s
+apply_named (node.Function p) s = of_function (function p (top_name (below_pars (below (below s)))).0 (top_name (below_pars (below (below s)))).1 (pars_onto (pars_in (below (below s))) no_pars) (top_kind (below s)) (top_body s)) ∷ below (below_pars (below (below s)))
+apply_named _ s = s
+
+-- a node of an object, or a whole
+abbrev pub apply_member : Node → Parts → Parts
+apply_member (node.Id p c) s = of_member (id p (top_name s).0 (top_name s).1 (close_of c)) false ∷ below s
+apply_member (node.Property p d) s = of_member (property p d (some_kind (top_kind (below (below s)))) (top_name (below s)).0 (top_name (below s)).1 (top_value s)) false ∷ below (below (below s))
+apply_member (node.Bare p d c) s = of_member (bare p d (some_kind (top_kind (below s))) (top_name s).0 (top_name s).1 (close_of c)) false ∷ below (below s)
+apply_member (node.Alias p d c) s = of_member (alias p d (top_name (below_path s)).0 (top_name (below_path s)).1 (path_in s).0.0 (path_in s).0.1 (path_in s).1 (close_of c)) false ∷ below (below_path s)
+apply_member (node.Signal p c) s = of_member (signal p (top_name s).0 (top_name s).1 None (close_of c)) false ∷ below s
+apply_member (node.SignalWith p c) s = of_member (signal p (top_name (below_signal_pars s)).0 (top_name (below_signal_pars s)).1 (Some (signal_pars_onto (signal_pars_in s) no_signal_pars)) (close_of c)) false ∷ below (below_signal_pars s)
+apply_member node.Method s = of_member (method (top_function s)) false ∷ below s
+apply_member node.Given s = of_member (given (path_in (below s)).0.0 (path_in (below s)).0.1 (path_in (below s)).1 (top_value s)) false ∷ below_path (below s)
+apply_member node.Group s = of_member (group (path_in (below_members s)).0.0 (path_in (below_members s)).0.1 (path_in (below_members s)).1 (members_onto (members_in s) no_members)) false ∷ below_path (below_members s)
+apply_member node.Child s = of_member (child (top_object s)) false ∷ below s
+apply_member node.Semi s = of_member (top_member s) true ∷ below s
+apply_member node.Object s = of_object (object (type_named (path_in (below_members s))) (members_onto (members_in s) no_members)) ∷ below_path (below_members s)
+apply_member (node.ObjectList p) s = of_objects p (objects_of (objects_in s)) ∷ below_objects s
+apply_member node.Document s = of_document (document (onto (imports_in (below s)) []) (top_object s)) ∷ below_imports (below s)
+apply_member (node.Script b) s = of_script (script b (onto (functions_in s) [])) ∷ below_functions s
+apply_member x s = apply_named x s
 
 abbrev pub apply : Node → Parts → Parts
 apply node.Mark s = mark ∷ s
@@ -226,6 +401,7 @@ apply (node.GiveValue p c) s = of_stmt (give p (just (top_expr s)) (close_of c))
 apply (node.Stop p c) s = of_stmt (stop p (close_of c)) ∷ s
 apply (node.Again p c) s = of_stmt (again p (close_of c)) ∷ s
 apply node.Body s = of_body (stmts_onto (stmts_in s) no_stmts) ∷ below_stmts s
+apply x s = apply_member x s
 
 -- ---- nodes in a row, the latest in front
 

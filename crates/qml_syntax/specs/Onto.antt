@@ -1,11 +1,11 @@
 -- Parts of trees that are read one after the other, and the whole that they give before what is behind them. In a list
 -- of parts the latest stands in front.
-use Rattle.std.specs.Prelude.{Bool, List, [], ◌∷◌}
+use Rattle.std.specs.Prelude.{Bool, Option, List, [], ◌∷◌}
 use Rattle.qml_base.specs.declared.numbers.Place.{Place}
 use Rattle.qml_syntax.specs.declared.operators.Operator.{Operator}
 use Rattle.qml_syntax.specs.declared.operators.Prefix.{Prefix}
 use Rattle.qml_syntax.specs.declared.operators.Assignment.{Assignment}
-use Rattle.qml_syntax.specs.Tree.{Units, Expr, steps, signed, chain, choose, assign, Exprs, an_expr, Fields, a_field, Step, Steps, no_steps, a_step, Signs, a_sign, Links, a_link, Choices, a_choice, Targets, a_target, Stmt, Stmts, a_stmt, Vars, a_var, Maybe}
+use Rattle.qml_syntax.specs.Tree.{Units, Expr, steps, signed, chain, choose, assign, Exprs, an_expr, Fields, a_field, Step, Steps, no_steps, a_step, Signs, a_sign, Links, a_link, Choices, a_choice, Targets, a_target, Stmt, Stmts, a_stmt, Vars, a_var, Maybe, Kind, Pars, a_par, SignalPars, a_signal_par, Members, a_member, Member, Objects, an_object, Object}
 use Rattle.qml_syntax.specs.Levels.{Reached, start, beyond}
 
 abbrev pub Field : Type 0
@@ -71,3 +71,34 @@ vars_onto (v ∷ back) vs = vars_onto back (a_var v.0 v.1 v.2 vs)
 abbrev pub stmts_onto : List Stmt → Stmts → Stmts
 stmts_onto [] ss = ss
 stmts_onto (s ∷ back) ss = stmts_onto back (a_stmt s ss)
+
+-- ---- of documents and script files
+
+abbrev pub Row : Type 0
+Row = Member × Bool
+
+abbrev pub Par : Type 0
+Par = Units × Option Kind
+
+abbrev pub SignalPar : Type 0
+SignalPar = Kind × Units
+
+abbrev pub onto : {A : Type 0} → List A → List A → List A
+onto [] tail = tail
+onto (x ∷ back) tail = onto back (x ∷ tail)
+
+abbrev pub members_onto : List Row → Members → Members
+members_onto [] tail = tail
+members_onto (x ∷ back) tail = members_onto back (a_member x.0 x.1 tail)
+
+abbrev pub objects_onto : List Object → Objects → Objects
+objects_onto [] tail = tail
+objects_onto (o ∷ back) tail = objects_onto back (an_object o tail)
+
+abbrev pub pars_onto : List Par → Pars → Pars
+pars_onto [] tail = tail
+pars_onto (x ∷ back) tail = pars_onto back (a_par x.0 x.1 tail)
+
+abbrev pub signal_pars_onto : List SignalPar → SignalPars → SignalPars
+signal_pars_onto [] tail = tail
+signal_pars_onto (x ∷ back) tail = signal_pars_onto back (a_signal_par x.0 x.1 tail)

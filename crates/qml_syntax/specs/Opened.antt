@@ -6,8 +6,8 @@ use Rattle.qml_syntax.specs.declared.operators.Operator.{Operator}
 use Rattle.qml_syntax.specs.declared.operators.Prefix.{Prefix}
 use Rattle.qml_syntax.specs.declared.node.Node.{Node}
 use Rattle.qml_syntax.specs.declared.node.Node.TheVariants as node
-use Rattle.qml_syntax.specs.Tree.{Expr, name, number, text, literal, paren, list, fields, steps, bumped, signed, chain, choose, assign, Exprs, no_exprs, an_expr, Fields, no_fields, a_field, Step, member, element, call, binding, Steps, no_steps, a_step, Signs, no_signs, a_sign, Links, no_links, a_link, Choices, no_choices, a_choice, Targets, no_targets, a_target, Stmt, empty, expr, block, declare, when, either, while, for, give, stop, again, Stmts, no_stmts, a_stmt, Vars, last_var, a_var, Maybe, nothing, just, First, no_first, first_expr, first_declare, Whole, whole_expr, whole_stmt, whole_body}
-use Rattle.qml_syntax.specs.Nodes.{Item, mark, of_expr, of_step, of_stmt, of_key, of_sign, of_link, of_choice, of_target, of_var, of_first, of_maybe, of_body, Parts, Table, parts_in}
+use Rattle.qml_syntax.specs.Tree.{Expr, name, number, text, literal, paren, list, fields, steps, bumped, signed, chain, choose, assign, Exprs, no_exprs, an_expr, Fields, no_fields, a_field, Step, member, element, call, binding, Steps, no_steps, a_step, Signs, no_signs, a_sign, Links, no_links, a_link, Choices, no_choices, a_choice, Targets, no_targets, a_target, Stmt, empty, expr, block, declare, when, either, while, for, give, stop, again, Stmts, no_stmts, a_stmt, Vars, last_var, a_var, Maybe, nothing, just, First, no_first, first_expr, first_declare, Whole, whole_expr, whole_stmt, whole_body, Names, Import, import_module, import_text, TypeName, own_type, type_of, Kind, kind_var, kind_name, kind_list, Pars, no_pars, a_par, Function, function, SignalPars, no_signal_pars, a_signal_par, object, Members, no_members, a_member, Member, id, property, bare, alias, signal, method, given, group, child, Value, value_object, value_list, value_stmt, Objects, last_object, an_object, document, script, whole_document, whole_script}
+use Rattle.qml_syntax.specs.Nodes.{Item, mark, of_expr, of_step, of_stmt, of_key, of_sign, of_link, of_choice, of_target, of_var, of_first, of_maybe, of_body, Parts, Table, parts_in, of_name, of_dot, of_file, of_qualifier, of_import, of_kind, of_par_name, of_par, of_signal_par, of_function, of_member, of_object, of_objects, of_document, of_script}
 use Rattle.qml_syntax.specs.Listed.{end_of, last_sign, listed_whole}
 
 -- ---- the node of a part
@@ -60,6 +60,28 @@ abbrev pub maybe_node : Maybe → Node
 maybe_node nothing = node.Absent
 maybe_node (just e) = node.Present
 
+abbrev pub kind_node : Option Kind → Node
+kind_node None = node.NoKind
+kind_node (Some kind_var) = node.KindVar
+kind_node (Some (kind_name n p ns)) = node.KindName
+kind_node (Some (kind_list n p)) = node.KindList n p
+
+abbrev pub import_node : Import → Node
+import_node (import_module n p ns v q c) = node.ImportModule v (end_of c)
+import_node (import_text n p q c) = node.ImportFile (end_of c)
+
+abbrev pub member_node : Member → Node
+member_node (id p n r c) = node.Id p (end_of c)
+member_node (property p d q n r v) = node.Property p d
+member_node (bare p d q n r c) = node.Bare p d (end_of c)
+member_node (alias p d n r t z ns c) = node.Alias p d (end_of c)
+member_node (signal p n r None c) = node.Signal p (end_of c)
+member_node (signal p n r (Some ps) c) = node.SignalWith p (end_of c)
+member_node (method f) = node.Method
+member_node (given n p ns v) = node.Given
+member_node (group n p ns ms) = node.Group
+member_node (child o) = node.Child
+
 abbrev pub node_of : Item → Node
 node_of mark = node.Mark
 node_of (of_expr e) = expr_node e
@@ -74,6 +96,23 @@ node_of (of_var n p) = node.Var n p
 node_of (of_first i) = first_node i
 node_of (of_maybe e) = maybe_node e
 node_of (of_body ss) = node.Body
+node_of (of_name n p) = node.First n p
+node_of (of_dot n) = node.Dot n
+node_of (of_file n p) = node.File n p
+node_of (of_qualifier None) = node.Plain
+node_of (of_qualifier (Some q)) = node.Qualifier q
+node_of (of_import i) = import_node i
+node_of (of_kind q) = kind_node q
+node_of (of_par_name n) = node.ParameterName n
+node_of (of_par n q) = node.Parameter
+node_of (of_signal_par q n) = node.SignalParameter n
+node_of (of_function (function p n r ps q ss)) = node.Function p
+node_of (of_member x false) = member_node x
+node_of (of_member x true) = node.Semi
+node_of (of_object o) = node.Object
+node_of (of_objects p os) = node.ObjectList p
+node_of (of_document d) = node.Document
+node_of (of_script (script b fs)) = node.Script b
 
 -- ---- the parts that it takes
 
@@ -154,6 +193,67 @@ first_parts no_first = []
 first_parts (first_expr e) = of_expr e ∷ []
 first_parts (first_declare p q vs) = mark ∷ vars_parts vs
 
+-- the names behind dots, before other parts
+abbrev pub dots_parts : Names → List Item → List Item
+dots_parts [] is = is
+dots_parts (n ∷ ns) is = of_dot n ∷ dots_parts ns is
+
+abbrev pub type_parts : TypeName → List Item → List Item
+type_parts (own_type n p) is = of_name n p ∷ is
+type_parts (type_of q p n) is = of_name q p ∷ of_dot n ∷ is
+
+abbrev pub imports_parts : List Import → List Item → List Item
+imports_parts [] is = is
+imports_parts (i ∷ more) is = of_import i ∷ imports_parts more is
+
+abbrev pub pars_parts : Pars → List Item → List Item
+pars_parts no_pars is = is
+pars_parts (a_par n q ps) is = of_par n q ∷ pars_parts ps is
+
+abbrev pub signal_pars_parts : SignalPars → List Item
+signal_pars_parts no_signal_pars = []
+signal_pars_parts (a_signal_par q n ps) = of_signal_par q n ∷ signal_pars_parts ps
+
+abbrev pub functions_parts : List Function → List Item
+functions_parts [] = []
+functions_parts (f ∷ fs) = of_function f ∷ functions_parts fs
+
+abbrev pub members_parts : Members → List Item
+members_parts no_members = []
+members_parts (a_member x b ms) = of_member x b ∷ members_parts ms
+
+abbrev pub objects_parts : Objects → List Item
+objects_parts (last_object o) = of_object o ∷ []
+objects_parts (an_object o os) = of_object o ∷ objects_parts os
+
+abbrev pub value_item : Value → Item
+value_item (value_object o) = of_object o
+value_item (value_list p os) = of_objects p os
+value_item (value_stmt d) = of_stmt d
+
+abbrev pub import_parts : Import → List Item
+import_parts (import_module n p ns v q c) = of_name n p ∷ dots_parts ns (of_qualifier q ∷ [])
+import_parts (import_text n p q c) = of_file n p ∷ of_qualifier q ∷ []
+
+abbrev pub kind_parts : Option Kind → List Item
+kind_parts (Some (kind_name n p ns)) = of_name n p ∷ dots_parts ns []
+kind_parts _ = []
+
+abbrev pub function_parts : Function → List Item
+function_parts (function p n r ps q ss) = of_name n r ∷ mark ∷ pars_parts ps (of_kind q ∷ of_body ss ∷ [])
+
+abbrev pub member_parts : Member → List Item
+member_parts (id p n r c) = of_name n r ∷ []
+member_parts (property p d q n r v) = of_kind (Some q) ∷ of_name n r ∷ value_item v ∷ []
+member_parts (bare p d q n r c) = of_kind (Some q) ∷ of_name n r ∷ []
+member_parts (alias p d n r t z ns c) = of_name n r ∷ of_name t z ∷ dots_parts ns []
+member_parts (signal p n r None c) = of_name n r ∷ []
+member_parts (signal p n r (Some ps) c) = of_name n r ∷ mark ∷ signal_pars_parts ps
+member_parts (method f) = of_function f ∷ []
+member_parts (given n p ns v) = of_name n p ∷ dots_parts ns (value_item v ∷ [])
+member_parts (group n p ns ms) = of_name n p ∷ dots_parts ns (mark ∷ members_parts ms)
+member_parts (child o) = of_object o ∷ []
+
 abbrev pub parts_of : Item → List Item
 parts_of (of_expr e) = expr_parts e
 parts_of (of_step i) = step_parts i
@@ -164,6 +264,17 @@ parts_of (of_target f t g p) = of_expr t ∷ []
 parts_of (of_first i) = first_parts i
 parts_of (of_maybe e) = value_parts e []
 parts_of (of_body ss) = mark ∷ stmts_parts ss
+parts_of (of_import i) = import_parts i
+parts_of (of_kind q) = kind_parts q
+parts_of (of_par n q) = of_par_name n ∷ of_kind q ∷ []
+parts_of (of_signal_par q n) = of_kind (Some q) ∷ []
+parts_of (of_function f) = function_parts f
+parts_of (of_member x false) = member_parts x
+parts_of (of_member x true) = of_member x false ∷ []
+parts_of (of_object (object x ms)) = type_parts x (mark ∷ members_parts ms)
+parts_of (of_objects p os) = mark ∷ objects_parts os
+parts_of (of_document (document is o)) = mark ∷ imports_parts is (of_object o ∷ [])
+parts_of (of_script (script b fs)) = mark ∷ functions_parts fs
 parts_of _ = []
 
 -- ---- places in a table
@@ -193,6 +304,8 @@ abbrev pub whole_of : Item → Option Whole
 whole_of (of_expr e) = Some (whole_expr e)
 whole_of (of_stmt d) = Some (whole_stmt d)
 whole_of (of_body ss) = Some (whole_body ss)
+whole_of (of_document d) = Some (whole_document d)
+whole_of (of_script s) = Some (whole_script s)
 whole_of _ = None
 
 abbrev pub only_whole : Parts → Option Whole
@@ -203,6 +316,8 @@ abbrev pub root_of : Whole → Item
 root_of (whole_expr e) = of_expr e
 root_of (whole_stmt d) = of_stmt d
 root_of (whole_body ss) = of_body ss
+root_of (whole_document d) = of_document d
+root_of (whole_script s) = of_script s
 
 -- the tree of these nodes, if they are those of one
 abbrev pub whole_in : Table → Option Whole

@@ -1,5 +1,5 @@
 -- The token that each operator and word of an expression is written as.
-use Rattle.std.specs.Prelude.{Bool, true, false, List, ℕ}
+use Rattle.std.specs.Prelude.{Bool, true, false, List, ℕ, codes}
 use Rattle.qml_syntax.specs.declared.token.TokenKind.{TokenKind}
 use Rattle.qml_syntax.specs.declared.token.TokenKind.TheVariants as k
 use Rattle.qml_syntax.specs.declared.mark.Mark.{Mark}
@@ -18,6 +18,8 @@ use Rattle.qml_syntax.specs.declared.literal.Literal.{Literal}
 use Rattle.qml_syntax.specs.declared.literal.Literal.TheVariants as x
 use Rattle.qml_syntax.specs.declared.literal.Declaration.{Declaration}
 use Rattle.qml_syntax.specs.declared.literal.Declaration.TheVariants as v
+use Rattle.qml_syntax.specs.declared.contextual.Contextual.{Contextual}
+use Rattle.qml_syntax.specs.declared.contextual.Contextual.TheVariants as c
 
 abbrev pub operator_mark : Operator → Mark
 operator_mark o.Coalesce = m.Coalesce
@@ -84,3 +86,15 @@ declaration_word v.Const = w.Const
 abbrev pub key_kind : Bool → List ℕ → TokenKind
 key_kind true t = k.Text t
 key_kind false t = k.Name t
+
+-- the name that a word of documents is written as
+abbrev pub contextual_name : Contextual → List ℕ
+contextual_name c.As = codes "as"
+contextual_name c.List = codes "list"
+contextual_name c.Id = codes "id"
+contextual_name c.Property = codes "property"
+contextual_name c.ReadOnly = codes "readonly"
+contextual_name c.Alias = codes "alias"
+contextual_name c.Signal = codes "signal"
+contextual_name c.Pragma = codes "pragma"
+contextual_name c.Library = codes "library"

@@ -2,8 +2,8 @@
 use Rattle.std.specs.Prelude.{ℕ, ◌+◌, List, [], ◌∷◌, ◌++◌, Option, Some, None, nat_lt, if◌then◌else◌}
 use Rattle.qml_base.specs.declared.numbers.Place.{Place}
 use Rattle.qml_syntax.specs.declared.deep.Standing.{Standing}
-use Rattle.qml_syntax.specs.Tree.{Expr, name, number, text, literal, paren, list, fields, steps, bumped, signed, chain, choose, assign, Exprs, no_exprs, an_expr, Fields, no_fields, a_field, Step, member, element, call, binding, Steps, no_steps, a_step, Links, no_links, a_link, Choices, no_choices, a_choice, Targets, no_targets, a_target, Stmt, empty, expr, block, declare, when, either, while, for, give, stop, again, Stmts, no_stmts, a_stmt, Vars, last_var, a_var, Maybe, nothing, just, First, no_first, first_expr, first_declare, Whole, whole_expr, whole_stmt, whole_body}
-use Rattle.qml_syntax.specs.Depth.{place_of}
+use Rattle.qml_syntax.specs.Tree.{Expr, name, number, text, literal, paren, list, fields, steps, bumped, signed, chain, choose, assign, Exprs, no_exprs, an_expr, Fields, no_fields, a_field, Step, member, element, call, binding, Steps, no_steps, a_step, Links, no_links, a_link, Choices, no_choices, a_choice, Targets, no_targets, a_target, Stmt, empty, expr, block, declare, when, either, while, for, give, stop, again, Stmts, no_stmts, a_stmt, Vars, last_var, a_var, Maybe, nothing, just, First, no_first, first_expr, first_declare, Whole, whole_expr, whole_stmt, whole_body, Function, function, Object, object, Members, no_members, a_member, Member, id, property, bare, alias, signal, method, given, group, child, Value, value_object, value_list, value_stmt, Objects, last_object, an_object, Document, document, Script, script, whole_document, whole_script}
+use Rattle.qml_syntax.specs.Depth.{place_of, place_of_type}
 
 abbrev pub Nodes : Type 0
 Nodes = List Standing
@@ -95,8 +95,53 @@ abbrev mutual
   nodes_first d (first_expr e) = nodes d e
   nodes_first d (first_declare p q vs) = stands d p ∷ nodes_vars (d + 1) vs
 
--- an expression, a statement and each statement of a list has depth 1
+-- ---- documents and script files
+
+abbrev pub nodes_function : ℕ → Function → Nodes
+nodes_function d (function p n r ps q ss) = stands d p ∷ nodes_stmts (d + 1) ss
+
+abbrev mutual
+  pub nodes_object : ℕ → Object → Nodes
+  nodes_object d (object x ms) = stands d (place_of_type x) ∷ nodes_members (d + 1) ms
+
+  pub nodes_members : ℕ → Members → Nodes
+  nodes_members d no_members = []
+  nodes_members d (a_member x s ms) = nodes_member d x ++ nodes_members d ms
+
+  pub nodes_member : ℕ → Member → Nodes
+  nodes_member d (id p n r c) = []
+  nodes_member d (property p a q n r v) = nodes_value d v
+  nodes_member d (bare p a q n r c) = []
+  nodes_member d (alias p b n r t z ns c) = []
+  nodes_member d (signal p n r ps c) = []
+  nodes_member d (method f) = nodes_function d f
+  nodes_member d (given n p ns v) = nodes_value d v
+  nodes_member d (group n p ns ms) = stands d p ∷ nodes_members (d + 1) ms
+  nodes_member d (child o) = nodes_object d o
+
+  pub nodes_value : ℕ → Value → Nodes
+  nodes_value d (value_object o) = nodes_object d o
+  nodes_value d (value_list p os) = stands d p ∷ nodes_objects (d + 1) os
+  nodes_value d (value_stmt s) = nodes_stmt d s
+
+  pub nodes_objects : ℕ → Objects → Nodes
+  nodes_objects d (last_object o) = nodes_object d o
+  nodes_objects d (an_object o os) = nodes_object d o ++ nodes_objects d os
+
+abbrev pub nodes_document : Document → Nodes
+nodes_document (document is o) = nodes_object 1 o
+
+abbrev pub nodes_functions : List Function → Nodes
+nodes_functions [] = []
+nodes_functions (f ∷ fs) = nodes_function 1 f ++ nodes_functions fs
+
+abbrev pub nodes_script : Script → Nodes
+nodes_script (script b fs) = nodes_functions fs
+
+-- an expression, a statement, each statement of a list, the root object and each function of a script file has depth 1
 abbrev pub nodes_whole : Whole → Nodes
 nodes_whole (whole_expr e) = nodes 1 e
 nodes_whole (whole_stmt s) = nodes_stmt 1 s
 nodes_whole (whole_body ss) = nodes_stmts 1 ss
+nodes_whole (whole_document d) = nodes_document d
+nodes_whole (whole_script s) = nodes_script s

@@ -9,6 +9,31 @@ use Rattle.qml_syntax.specs.declared.taking.Edge.TheVariants as edge
 use Rattle.qml_syntax.specs.Nodes.{Parts, below, is_mark}
 use Rattle.qml_syntax.specs.Opened.{node_of}
 
+-- of nodes of documents and script files
+abbrev pub taking_in_document : Node → Taking
+taking_in_document (node.SignalParameter n) = taking.Count 1
+taking_in_document (node.Id p c) = taking.Count 1
+taking_in_document (node.Signal p c) = taking.Count 1
+taking_in_document node.Method = taking.Count 1
+taking_in_document node.Child = taking.Count 1
+taking_in_document node.Semi = taking.Count 1
+taking_in_document (node.ImportFile c) = taking.Count 2
+taking_in_document node.Parameter = taking.Count 2
+taking_in_document (node.Bare p d c) = taking.Count 2
+taking_in_document (node.Property p d) = taking.Count 3
+taking_in_document (node.ObjectList p) = taking.Row
+taking_in_document (node.Script b) = taking.Row
+taking_in_document node.KindName = taking.Steps
+taking_in_document (node.ImportModule v c) = taking.Path
+taking_in_document node.Given = taking.Path
+taking_in_document node.Group = taking.Members
+taking_in_document node.Object = taking.Members
+taking_in_document (node.Alias p d c) = taking.Target
+taking_in_document (node.SignalWith p c) = taking.NamedRow
+taking_in_document (node.Function p) = taking.Function
+taking_in_document node.Document = taking.RowBefore
+taking_in_document _ = taking.Count 0
+
 abbrev pub taking_of : Node → Taking
 taking_of (node.Paren p) = taking.Count 1
 taking_of (node.Element p) = taking.Count 1
@@ -39,13 +64,14 @@ taking_of (node.Signed true g p) = taking.Count 1
 taking_of (node.Signed false g p) = taking.Chain
 taking_of (node.Chain true op p) = taking.Count 2
 taking_of (node.Chain false op p) = taking.Operands
-taking_of _ = taking.Count 0
+taking_of x = taking_in_document x
 
 abbrev pub is_step : Node → Bool
 is_step (node.Member n p) = true
 is_step (node.Element p) = true
 is_step (node.Call p) = true
 is_step (node.Binding p) = true
+is_step (node.Dot n) = true
 is_step _ = false
 
 -- whether it begins a chain before its last operand
@@ -74,3 +100,9 @@ left taking.Row s = past edge.Mark s
 left taking.Steps s = past edge.Operand s
 left taking.Chain s = past edge.First (below s)
 left taking.Operands s = below (past edge.First (below s))
+left taking.Path s = past edge.Operand (below s)
+left taking.Members s = past edge.Operand (past edge.Mark s)
+left taking.Target s = below (past edge.Operand s)
+left taking.NamedRow s = below (past edge.Mark s)
+left taking.Function s = below (past edge.Mark (drop 2 s))
+left taking.RowBefore s = past edge.Mark (below s)

@@ -32,6 +32,34 @@ abbrev pub begun : Bool → Place → Task
 begun true p = task.Node p
 begun false p = task.Parts part.Signs
 
+abbrev pub steps : Task
+steps = task.Parts part.Steps
+
+-- of nodes of documents and script files: an object and a group begin with their path
+abbrev pub form_in_document : Node → Tasks
+form_in_document node.KindName = steps ∷ []
+form_in_document (node.ImportModule v c) = steps ∷ one ∷ []
+form_in_document (node.ImportFile c) = one ∷ one ∷ []
+form_in_document node.Parameter = one ∷ one ∷ []
+form_in_document (node.SignalParameter n) = one ∷ []
+form_in_document (node.Function p) = task.Node p ∷ one ∷ many ∷ one ∷ one ∷ []
+form_in_document (node.Id p c) = one ∷ []
+form_in_document (node.Property p d) = one ∷ one ∷ one ∷ []
+form_in_document (node.Bare p d c) = one ∷ one ∷ []
+form_in_document (node.Alias p d c) = one ∷ steps ∷ []
+form_in_document (node.Signal p c) = one ∷ []
+form_in_document (node.SignalWith p c) = one ∷ many ∷ []
+form_in_document node.Method = one ∷ []
+form_in_document node.Given = steps ∷ one ∷ []
+form_in_document node.Group = task.Parts part.Named ∷ many ∷ []
+form_in_document node.Child = one ∷ []
+form_in_document node.Semi = one ∷ []
+form_in_document node.Object = task.Parts part.Named ∷ many ∷ []
+form_in_document (node.ObjectList p) = task.Node p ∷ many ∷ []
+form_in_document node.Document = many ∷ one ∷ []
+form_in_document (node.Script b) = many ∷ []
+form_in_document _ = []
+
 -- of what is no node by itself
 abbrev pub form_of_part : Node → Tasks
 form_of_part (node.Element p) = one ∷ []
@@ -44,7 +72,7 @@ form_of_part (node.Expression c) = one ∷ []
 form_of_part node.FirstExpression = one ∷ []
 form_of_part node.Present = one ∷ []
 form_of_part node.Body = many ∷ []
-form_of_part _ = []
+form_of_part x = form_in_document x
 
 -- of a node that begins with its first part
 abbrev pub form_of_chain : Node → Tasks
@@ -92,6 +120,7 @@ abbrev pub is_node : Task → Bool
 is_node (task.Node p) = true
 is_node task.Led = true
 is_node (task.Parts part.Signs) = true
+is_node (task.Parts part.Named) = true
 is_node (task.Parts part.One) = false
 is_node (task.Parts part.Many) = false
 is_node (task.Parts part.Steps) = false
@@ -102,6 +131,7 @@ depth [] = 0
 depth (task.Node p ∷ tasks) = depth tasks + 1
 depth (task.Led ∷ tasks) = depth tasks + 1
 depth (task.Parts part.Signs ∷ tasks) = depth tasks + 1
+depth (task.Parts part.Named ∷ tasks) = depth tasks + 1
 depth (task.Parts part.One ∷ tasks) = depth tasks
 depth (task.Parts part.Many ∷ tasks) = depth tasks
 depth (task.Parts part.Steps ∷ tasks) = depth tasks
@@ -130,11 +160,17 @@ abbrev pub in_steps : Bool → Node → Tasks → Nodes → State
 in_steps true x tasks found = opened x (task.Parts part.Steps ∷ tasks) found
 in_steps false x tasks found = opened x tasks found
 
+-- of the path of a node: it begins with the first name
+abbrev pub named_by : Node → Task
+named_by (node.First n p) = task.Node p
+named_by _ = task.Parts part.Named
+
 abbrev pub taken : Node → Parts → Tasks → Nodes → State
 taken x part.One tasks found = opened x tasks found
 taken x part.Signs tasks found = opened x tasks found
 taken x part.Many tasks found = in_many (is_mark x) x tasks found
 taken x part.Steps tasks found = in_steps (is_step x) x tasks found
+taken x part.Named tasks found = (named_by x ∷ tasks, found)
 
 abbrev pub taken_next : Node → Option Parts × Tasks × Nodes → State
 taken_next x (None, tasks, found) = (tasks, found)

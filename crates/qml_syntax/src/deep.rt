@@ -31,10 +31,12 @@ enum Parts {
     One,
     /// The parts behind a mark.
     Many,
-    /// An expression and the steps behind it.
+    /// An expression and the steps behind it; a path.
     Steps,
     /// The prefixes of a node, which begins with the first of them.
     Signs,
+    /// The path of a node, which begins with it.
+    Named,
 }
 
 /// What is still to be found of a tree.
@@ -53,7 +55,7 @@ impl Task {
         ensures { result ≡ f.is_node self }
     {
         match self {
-            Task::Node(_) | Task::Led | Task::Parts(Parts::Signs) => true,
+            Task::Node(_) | Task::Led | Task::Parts(Parts::Signs | Parts::Named) => true,
             Task::Parts(Parts::One | Parts::Many | Parts::Steps) => false,
         }
     }
@@ -185,6 +187,32 @@ impl Descent {
         if first { Ok(()) } else { self.push(ONE) }
     }
 
+    /// Adds what a node of a document or of a script file is made of.
+    fn add_in_document(&mut self, node: &Node) -> Result<(), NoMemory>
+        ensures { OnOk result (self.new ≡ (reverse (f.form_in_document node.now) ++ self.old.0, self.old.1)) }
+    {
+        match node {
+            Node::SignalParameter(_)
+            | Node::Id(_, _)
+            | Node::Signal(_, _)
+            | Node::Method
+            | Node::Child
+            | Node::Semi => self.push(ONE),
+            Node::ImportFile(_) | Node::Parameter | Node::Bare(_, _, _) => self.add(&[ONE, ONE]),
+            Node::Property(_, _) => self.add(&[ONE, ONE, ONE]),
+            Node::KindName => self.push(STEPS),
+            Node::ImportModule(_, _) | Node::Given => self.add(&[STEPS, ONE]),
+            Node::Alias(_, _, _) => self.add(&[ONE, STEPS]),
+            Node::SignalWith(_, _) => self.add(&[ONE, MANY]),
+            Node::Group | Node::Object => self.add(&[Task::Parts(Parts::Named), MANY]),
+            Node::Function(place) => self.add(&[Task::Node(*place), ONE, MANY, ONE, ONE]),
+            Node::ObjectList(place) => self.add(&[Task::Node(*place), MANY]),
+            Node::Document => self.add(&[MANY, ONE]),
+            Node::Script(_) => self.push(MANY),
+            _ => Ok(()),
+        }
+    }
+
     /// Adds what a part of a node is made of.
     fn add_part(&mut self, node: &Node) -> Result<(), NoMemory>
         ensures { OnOk result (self.new ≡ (reverse (f.form_of_part node.now) ++ self.old.0, self.old.1)) }
@@ -204,7 +232,7 @@ impl Descent {
                 self.add_before(*first)?;
                 self.push(ONE)
             }
-            _ => Ok(()),
+            _ => self.add_in_document(node),
         }
     }
 
@@ -281,6 +309,16 @@ impl Descent {
         self.begin(node)
     }
 
+    /// Takes a node of the path that a node begins with: the first name, or one behind a dot.
+    fn take_name(&mut self, node: &Node) -> Result<(), NoMemory>
+        ensures { OnOk result (self.new ≡ (f.named_by node.now ∷ self.old.0, self.old.1)) }
+    {
+        match node {
+            Node::First(_, place) => self.push(Task::Node(*place)),
+            _ => self.push(Task::Parts(Parts::Named)),
+        }
+    }
+
     /// Takes the node before those that have been taken.
     fn take(&mut self, node: &Node) -> Result<(), NoMemory>
         ensures { OnOk result (self.new ≡ f.taken_next node.now (f.next_of self.old.0 self.old.1)) }
@@ -289,6 +327,7 @@ impl Descent {
             Some(Parts::One | Parts::Signs) => self.begin(node),
             Some(Parts::Many) => self.take_one_of_many(node),
             Some(Parts::Steps) => self.take_step(node),
+            Some(Parts::Named) => self.take_name(node),
             None => Ok(()),
         }
     }
@@ -350,7 +389,7 @@ impl Nodes {
 
     /// Where the first node of a tree begins, in the order of writing, that stands deeper than 100, where these are the
     /// tree's nodes; `None` exactly where none stands so deep. Depths are those of `Tree::standing`.
-    #[tactic(auto, using(crate::proofs::DepthLemmas::whole_is_deep))]
+    #[tactic(auto, using(crate::proofs::DeepDocumentLemmas::whole_is_deep))]
     pub fn too_deep(&self, alloc: Global) -> Result<Option<Place>, NoMemory>
         ensures { IfOk result (λ place. (w : Whole) → self.now ≡ listed_whole w → place ≡ deep_whole w) }
     {

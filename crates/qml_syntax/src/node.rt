@@ -1,8 +1,9 @@
 //! Trees as nodes, children before their parents.
 
-ghost use Rattle.std.specs.Prelude.{◌≡◌, [], ◌∷◌, reverse, OnOk, OnErr};
+ghost use Rattle.std.specs.Prelude.{◌≡◌, [], ◌∷◌, ◌++◌, reverse, MatchOption, OnOk, OnErr};
 ghost use Rattle.qml_syntax.specs.Nodes as n;
 
+use crate::contextual::{Adjective, Version};
 use crate::literal::{Declaration, Literal};
 use crate::operators::{Assignment, Operator, Postfix, Prefix};
 use qml_base::{NoMemory, Place};
@@ -107,6 +108,66 @@ pub enum Node {
     Again(Place, Close),
     /// A body of the statements behind the mark.
     Body,
+    /// The first name of a path, a kind or a type; a name that is declared.
+    First(Text, Place),
+    /// A name behind a dot.
+    Dot(Text),
+    /// The text of an import.
+    File(Text, Place),
+    /// No qualifier of an import.
+    Plain,
+    /// The qualifier of an import.
+    Qualifier(Text),
+    /// The import of the module of this path, with a qualifier or none.
+    ImportModule(Version, Close),
+    /// The import of a text, with a qualifier or none.
+    ImportFile(Close),
+    /// The kind `var`.
+    KindVar,
+    /// The kind of this path.
+    KindName,
+    /// The kind of a list of what is named so.
+    KindList(Text, Place),
+    /// A kind that may be absent, and is.
+    NoKind,
+    /// The name of a function's parameter.
+    ParameterName(Text),
+    /// A function's parameter: its name, and its kind or none.
+    Parameter,
+    /// A signal's parameter of the kind before it.
+    SignalParameter(Text),
+    /// A function: its name, the parameters behind the mark, its kind or none, and its body.
+    Function(Place),
+    /// An id: its name.
+    Id(Place, Close),
+    /// A property: its kind, its name and its value.
+    Property(Place, Adjective),
+    /// A property without a value: its kind and its name.
+    Bare(Place, Adjective, Close),
+    /// An alias, with `default` or not: its name and the path of its target.
+    Alias(Place, bool, Close),
+    /// A signal without brackets: its name.
+    Signal(Place, Close),
+    /// A signal: its name, and the parameters behind the mark.
+    SignalWith(Place, Close),
+    /// A function as a member.
+    Method,
+    /// A path and the value that is given to it.
+    Given,
+    /// A path and the members behind the mark.
+    Group,
+    /// An object as a member.
+    Child,
+    /// A member and a `;` that isn't its end.
+    Semi,
+    /// An object: the path of its type, and the members behind the mark.
+    Object,
+    /// A list of the objects behind the mark.
+    ObjectList(Place),
+    /// A document: the imports behind the mark, and the root object.
+    Document,
+    /// A script file of the functions behind the mark, with `.pragma library` or not.
+    Script(bool),
 }
 
 impl Node {
@@ -165,8 +226,26 @@ impl Nodes {
         self.nodes
     }
 
+    /// Takes the last node away, if there is one.
+    pub fn pop(&mut self) -> Option<Node>
+        ensures { MatchOption result ((self.old ≡ []) × (self.new ≡ [])) (λ node. self.old ≡ node ∷ self.new) }
+    {
+        self.nodes.pop()
+    }
+
+    /// Adds the nodes of a statement or a body, which are then gone there. On an error nothing changes.
+    pub fn append(&mut self, part: &mut Nodes) -> Result<(), NoMemory>
+        ensures added { OnOk result ((self.new ≡ part.old ++ self.old) × (part.new ≡ [])) }
+        ensures kept { OnErr result ((self.new ≡ self.old) × (part.new ≡ part.old)) }
+    {
+        match self.nodes.append(&mut part.nodes) {
+            Ok(()) => Ok(()),
+            Err(_) => Err(NoMemory),
+        }
+    }
+
     /// The nodes in the order in which they were added.
-    pub(crate) fn as_slice(&self) -> &[Node]
+    pub fn as_slice(&self) -> &[Node]
         ensures { reverse result.now ≡ self.now }
     {
         &self.nodes

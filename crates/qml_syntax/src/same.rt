@@ -1,7 +1,7 @@
 //! When nodes are the same.
 
 ghost use Rattle.std.specs.Prelude.{◌≡◌, ◌↔◌, ◌||◌, true, false, IsTrue, MatchOption};
-ghost use Rattle.qml_syntax.specs.Kinds.{is_of_chain, is_of_statement};
+ghost use Rattle.qml_syntax.specs.Kinds.{is_of_chain, is_of_statement, is_named, is_of_object};
 
 use crate::node::Node;
 
@@ -15,7 +15,7 @@ pub fn same_node(a: &Node, b: &Node) -> bool
             Some(same) => same,
             None => match same_in_statement(a, b) {
                 Some(same) => same,
-                None => false,
+                None => same_in_document(a, b),
             },
         },
     }
@@ -23,7 +23,7 @@ pub fn same_node(a: &Node, b: &Node) -> bool
 
 /// Whether two nodes are equal, where the first is one of an expression but no chain.
 fn same_in_expression(a: &Node, b: &Node) -> Option<bool>
-    ensures { MatchOption result ((is_of_chain a.now || is_of_statement a.now) ≡ true) (λ same. IsTrue same ↔ (a.now ≡ b.now)) }
+    ensures { MatchOption result ((is_of_chain a.now || is_of_statement a.now || is_named a.now || is_of_object a.now) ≡ true) (λ same. IsTrue same ↔ (a.now ≡ b.now)) }
 {
     Some(match a {
         Node::Mark => b.is_mark(),
@@ -114,6 +114,79 @@ fn same_in_statement(a: &Node, b: &Node) -> Option<bool>
         Node::Again(place, close) =>
             matches!(b, Node::Again(at, end) if *place == *at && *close == *end),
         Node::Body => matches!(b, Node::Body),
+        _ => return None,
+    })
+}
+
+/// Whether two nodes are equal, where the first is one of documents.
+fn same_in_document(a: &Node, b: &Node) -> bool
+    ensures { (is_named a.now || is_of_object a.now) ≡ true → IsTrue result ↔ (a.now ≡ b.now) }
+{
+    match same_named(a, b) {
+        Some(same) => same,
+        None => match same_in_object(a, b) {
+            Some(same) => same,
+            None => false,
+        },
+    }
+}
+
+/// Whether two nodes are equal, where the first is one of a path, an import, a kind or a function.
+fn same_named(a: &Node, b: &Node) -> Option<bool>
+    ensures { MatchOption result (is_named a.now ≡ false) (λ same. IsTrue same ↔ (a.now ≡ b.now)) }
+{
+    Some(match a {
+        Node::First(text, place) =>
+            matches!(b, Node::First(other, at) if text.same(other) && *place == *at),
+        Node::Dot(text) => matches!(b, Node::Dot(other) if text.same(other)),
+        Node::File(text, place) =>
+            matches!(b, Node::File(other, at) if text.same(other) && *place == *at),
+        Node::Plain => matches!(b, Node::Plain),
+        Node::Qualifier(text) => matches!(b, Node::Qualifier(other) if text.same(other)),
+        Node::ImportModule(version, close) =>
+            matches!(b, Node::ImportModule(other, end) if *version == *other && *close == *end),
+        Node::ImportFile(close) => matches!(b, Node::ImportFile(end) if *close == *end),
+        Node::KindVar => matches!(b, Node::KindVar),
+        Node::KindName => matches!(b, Node::KindName),
+        Node::KindList(text, place) =>
+            matches!(b, Node::KindList(other, at) if text.same(other) && *place == *at),
+        Node::NoKind => matches!(b, Node::NoKind),
+        Node::ParameterName(text) => matches!(b, Node::ParameterName(other) if text.same(other)),
+        Node::Parameter => matches!(b, Node::Parameter),
+        Node::SignalParameter(text) =>
+            matches!(b, Node::SignalParameter(other) if text.same(other)),
+        Node::Function(place) => matches!(b, Node::Function(at) if *place == *at),
+        _ => return None,
+    })
+}
+
+/// Whether two nodes are equal, where the first is one of an object, of its members, or of a whole file.
+fn same_in_object(a: &Node, b: &Node) -> Option<bool>
+    ensures { MatchOption result (is_of_object a.now ≡ false) (λ same. IsTrue same ↔ (a.now ≡ b.now)) }
+{
+    Some(match a {
+        Node::Id(place, close) => matches!(b, Node::Id(at, end) if *place == *at && *close == *end),
+        Node::Property(place, adjective) =>
+            matches!(b, Node::Property(at, other) if *place == *at && *adjective == *other),
+        Node::Bare(place, adjective, close) => {
+            matches!(b, Node::Bare(at, other, end) if *place == *at && *adjective == *other && *close == *end)
+        }
+        Node::Alias(place, is_default, close) => {
+            matches!(b, Node::Alias(at, other, end) if *place == *at && *is_default == *other && *close == *end)
+        }
+        Node::Signal(place, close) =>
+            matches!(b, Node::Signal(at, end) if *place == *at && *close == *end),
+        Node::SignalWith(place, close) =>
+            matches!(b, Node::SignalWith(at, end) if *place == *at && *close == *end),
+        Node::Method => matches!(b, Node::Method),
+        Node::Given => matches!(b, Node::Given),
+        Node::Group => matches!(b, Node::Group),
+        Node::Child => matches!(b, Node::Child),
+        Node::Semi => matches!(b, Node::Semi),
+        Node::Object => matches!(b, Node::Object),
+        Node::ObjectList(place) => matches!(b, Node::ObjectList(at) if *place == *at),
+        Node::Document => matches!(b, Node::Document),
+        Node::Script(pragma) => matches!(b, Node::Script(other) if *pragma == *other),
         _ => return None,
     })
 }

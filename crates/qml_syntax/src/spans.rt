@@ -72,6 +72,12 @@ impl Spans {
             Taking::Steps => self.back_to(Edge::Operand, end),
             Taking::Chain => self.back_to(Edge::First, self.before(end)),
             Taking::Operands => self.before(self.back_to(Edge::First, self.before(end))),
+            Taking::Path => self.back_to(Edge::Operand, self.before(end)),
+            Taking::Members => self.back_to(Edge::Operand, self.back_to(Edge::Mark, end)),
+            Taking::Target => self.before(self.back_to(Edge::Operand, end)),
+            Taking::NamedRow => self.before(self.back_to(Edge::Mark, end)),
+            Taking::Function => self.before(self.back_to(Edge::Mark, self.back(2, end))),
+            Taking::RowBefore => self.back_to(Edge::Mark, self.before(end)),
         }
     }
 
@@ -101,5 +107,12 @@ impl Spans {
             spans.starts.push(start)?;
         }
         Ok(spans)
+    }
+
+    /// The nodes alone.
+    pub fn into_nodes(self) -> Vec<Node>
+        ensures { result ≡ self.nodes }
+    {
+        self.nodes
     }
 }

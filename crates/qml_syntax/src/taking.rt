@@ -1,7 +1,7 @@
 //! Which parts a node takes.
 
 ghost use Rattle.std.specs.Prelude.{◌≡◌};
-ghost use Rattle.qml_syntax.specs.Taken.{taking_of, is_step, is_first, is_edge};
+ghost use Rattle.qml_syntax.specs.Taken.{taking_of, taking_in_document, is_step, is_first, is_edge};
 
 use crate::node::Node;
 
@@ -12,12 +12,24 @@ pub enum Taking {
     Count(usize),
     /// Those behind a mark, and the mark.
     Row,
-    /// The steps behind an expression, and it.
+    /// The steps behind an expression, and it; or the names behind dots of a path, and its first.
     Steps,
     /// The last operand, and the chain before it.
     Chain,
     /// The last operand, the chain before it, and the operand in front of the chain.
     Operands,
+    /// A path, and one part behind it.
+    Path,
+    /// A path, a mark and the parts behind it.
+    Members,
+    /// A path, and one part before it.
+    Target,
+    /// A part, a mark and the parts behind it.
+    NamedRow,
+    /// A part, a mark and the parts behind it, and two parts more.
+    Function,
+    /// A mark and the parts behind it, and one part more.
+    RowBefore,
 }
 
 /// What the first of many parts is.
@@ -68,16 +80,42 @@ pub fn taken_by(node: &Node) -> Taking
         } else {
             Taking::Operands
         },
+        _ => taken_in_document(node),
+    }
+}
+
+/// Which parts this node of a document or a script file takes.
+fn taken_in_document(node: &Node) -> Taking
+    ensures { result ≡ taking_in_document node.now }
+{
+    match node {
+        Node::SignalParameter(_)
+        | Node::Id(_, _)
+        | Node::Signal(_, _)
+        | Node::Method
+        | Node::Child
+        | Node::Semi => Taking::Count(1),
+        Node::ImportFile(_) | Node::Parameter | Node::Bare(_, _, _) => Taking::Count(2),
+        Node::Property(_, _) => Taking::Count(3),
+        Node::ObjectList(_) | Node::Script(_) => Taking::Row,
+        Node::KindName => Taking::Steps,
+        Node::ImportModule(_, _) | Node::Given => Taking::Path,
+        Node::Group | Node::Object => Taking::Members,
+        Node::Alias(_, _, _) => Taking::Target,
+        Node::SignalWith(_, _) => Taking::NamedRow,
+        Node::Function(_) => Taking::Function,
+        Node::Document => Taking::RowBefore,
         _ => Taking::Count(0),
     }
 }
 
-/// Whether it is a step.
+/// Whether it is a step, or a name behind a dot.
 fn is_step_node(node: &Node) -> bool
     ensures { result ≡ is_step node.now }
 {
     match node {
-        Node::Member(_, _) | Node::Element(_) | Node::Call(_) | Node::Binding(_) => true,
+        Node::Member(_, _) | Node::Element(_) | Node::Call(_) | Node::Binding(_) | Node::Dot(_) =>
+            true,
         _ => false,
     }
 }

@@ -59,47 +59,11 @@ const MARKS: [(&str, &str); 50] = [
     ("=>", "Arrow"),
 ];
 
-/// Each reserved word.
-const WORDS: [&str; 38] = [
-    "break",
-    "case",
-    "catch",
-    "class",
-    "const",
-    "continue",
-    "debugger",
-    "default",
-    "delete",
-    "do",
-    "else",
-    "enum",
-    "export",
-    "extends",
-    "false",
-    "finally",
-    "for",
-    "function",
-    "if",
-    "import",
-    "in",
-    "instanceof",
-    "let",
-    "new",
-    "null",
-    "return",
-    "super",
-    "switch",
-    "this",
-    "throw",
-    "true",
-    "try",
-    "typeof",
-    "var",
-    "void",
-    "while",
-    "with",
-    "yield",
-];
+/// The reserved words, with a blank between two.
+const WORDS: &str = "break case catch class const continue debugger default delete do else \
+    enum export extends false finally for function if import in instanceof \
+    let new null return super switch this throw true try typeof var void \
+    while with yield";
 
 /// Each escape with the unit that it stands for.
 const ESCAPES: [(&str, u16); 13] = [
@@ -163,7 +127,7 @@ fn reads_every_mark(rt: HostRuntime) -> Result<(), Fail> {
 
 #[test]
 fn reads_every_word(rt: HostRuntime) -> Result<(), Fail> {
-    for spelling in &WORDS {
+    for spelling in WORDS.split(' ') {
         let found = tokens(rt.alloc(), spelling)?;
         assert_eq!(rt; found.len(), 2);
         let mut shown = match &found[0].what {
@@ -171,7 +135,7 @@ fn reads_every_word(rt: HostRuntime) -> Result<(), Fail> {
             _ => String::new(rt.alloc()),
         };
         shown.make_ascii_lowercase();
-        assert_eq!(rt; shown.as_str(), *spelling);
+        assert_eq!(rt; shown.as_str(), spelling);
     }
     Ok(())
 }
@@ -203,6 +167,22 @@ fn ends_lines_in_three_ways(rt: HostRuntime) -> Result<(), Fail> {
             assert_eq!(rt; last.place.column, 3);
             assert!(rt; last.after_line);
         }
+    }
+    Ok(())
+}
+
+#[test]
+fn says_what_is_wrong(rt: HostRuntime) -> Result<(), Fail> {
+    let alloc = rt.alloc();
+    match lex(alloc, b"a\n 08") {
+        Err(fault) => {
+            let said = format!(in alloc; "{fault}")?;
+            assert_eq!(rt;
+                said.as_str(),
+                "line 2, column 2: these digits are no number"
+            );
+        }
+        Ok(_) => return Err(Fail::from("read")),
     }
     Ok(())
 }

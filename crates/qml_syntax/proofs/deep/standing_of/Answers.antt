@@ -1,6 +1,6 @@
 use Rattle.std.specs.Prelude.{reverse}
 use Rattle.std.proofs.lemmas.Result.{IfOk-weaker}
-use Rattle.qml_syntax.proofs.WalkStandingLemmas.{all_found}
+use Rattle.qml_syntax.proofs.FoundDocument.{all_found}
 use Rattle.qml_syntax.proofs.deep.standing_of.Goals as goal
 
 pub returns : goal.returns

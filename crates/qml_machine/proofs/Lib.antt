@@ -1,0 +1,13 @@
+pub mod Backs
+pub mod Tells
+pub mod LeftOpen
+pub mod StepReads
+pub mod StmtEnds
+pub mod Runs
+pub mod DocumentComplete
+pub mod Shut
+pub mod DocumentExact
+pub mod DocumentFronts
+pub mod EndsLemmas
+pub mod KeptFollows
+pub mod KeptDocumentExact
