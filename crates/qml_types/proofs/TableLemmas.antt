@@ -1,41 +1,31 @@
--- Finding a property among the cells of several types.
-use Rattle.std.proofs.Common.{cond, suc, zero, map, slice_get, ◌≤◌, ◌-◌, ◌≡◌, sym, refl, ℕ, List, [], ◌∷◌, ◌++◌, ◌+◌, ◌<◌, ◌&&◌, length, drop, get_or, true, false, Option, Some, None, add-one, drop-cons, arith}
-use Rattle.std.specs.List.{flat_map}
-use Rattle.std.specs.Option.{is_some}
-use Rattle.std.specs.Str.{bytes_eq}
+-- Finding one among those of several types.
+use Rattle.std.proofs.Common.{suc, zero, map, slice_get, ◌≤◌, ◌-◌, ◌≡◌, sym, refl, ℕ, List, [], ◌∷◌, ◌++◌, ◌+◌, ◌<◌, length, drop, get_or, Bool, true, false, Option, Some, None, add-one, drop-cons, arith}
+use Rattle.std.specs.List.{flat_map, find}
+use Rattle.std.specs.Option.{is_some, option_map}
 use Rattle.std.proofs.lemmas.List.{length-map}
 use Rattle.std.proofs.lemmas.List.Concat.{flat_map-cons}
+use Rattle.std.proofs.lemmas.List.Folds.{find-append}
 use Rattle.qml_types.specs.declared.kind.TypeNo.{TypeNo}
-use Rattle.qml_types.specs.declared.places.Prop.{Prop}
-use Rattle.qml_types.specs.Table.{TypeCell, found, own_cells, cell_of, is_shown, prop_of}
-use Rattle.qml_types.specs.declared.cells.Row.{Row}
+use Rattle.qml_types.specs.declared.cells.Cell.{Cell}
+use Rattle.qml_types.specs.Table.{TypeCell, own_cells, cell_of}
 
-pub found-past : (xs ys : List TypeCell) (name : List ℕ) → found xs name ≡ None → found (xs ++ ys) name ≡ found ys name
-found-past [] ys name none = refl
-found-past (x ∷ xs) ys name none =
-    elim (is_shown x.access && bytes_eq x.name name) as (λ b. cond b (Some (prop_of x)) (found xs name) ≡ None → cond b (Some (prop_of x)) (found (xs ++ ys) name) ≡ found ys name)
-    [ true ↦ λ e. cc | false ↦ λ e. found-past xs ys name e ] none
+pub is_some-map : {A X : Type 0} (f : A → X) (o : Option A) → is_some (option_map f o) ≡ is_some o
+is_some-map f None = refl
+is_some-map f (Some a) = refl
 
-pub found-first : (xs ys : List TypeCell) (name : List ℕ) (p : Prop) → found xs name ≡ Some p → found (xs ++ ys) name ≡ Some p
-found-first [] ys name p some = cc
-found-first (x ∷ xs) ys name p some =
-    elim (is_shown x.access && bytes_eq x.name name) as (λ b. cond b (Some (prop_of x)) (found xs name) ≡ Some p → cond b (Some (prop_of x)) (found (xs ++ ys) name) ≡ Some p)
-    [ true ↦ λ e. e | false ↦ λ e. found-first xs ys name p e ] some
+module _ {X : Type 0} (own : TypeNo → List X) where
+  opened : (items : List TypeNo) (i : ℕ) (d : TypeNo) → i < length items → flat_map own (drop i items) ≡ own (get_or items i d) ++ flat_map own (drop (i + 1) items)
+  opened items i d within = rw (add-one, drop-cons items i d) (flat_map-cons own (get_or items i d) (drop (suc i) items))
 
-opened : (items : List TypeNo) (i : ℕ) (d : TypeNo) → i < length items → flat_map own_cells (drop i items) ≡ own_cells (get_or items i d) ++ flat_map own_cells (drop (i + 1) items)
-opened items i d within = rw (add-one, drop-cons items i d) (flat_map-cons own_cells (get_or items i d) (drop (suc i) items))
+  pub past-one : (p : X → Bool) (items : List TypeNo) (i : ℕ) (d : TypeNo) (r : Option X) → i < length items → r ≡ find p (own (get_or items i d)) → is_some r ≡ false
+      → find p (flat_map own (drop i items)) ≡ find p (flat_map own (drop (i + 1) items))
+  past-one p items i d None within own_is none = rw (opened items i d within, find-append p (own (get_or items i d)) (flat_map own (drop (i + 1) items)), ← own_is) refl
+  past-one p items i d (Some x) within own_is none = cc
 
-pub past-one : (items : List TypeNo) (i : ℕ) (d : TypeNo) (name : List ℕ) (r : Option Prop) → i < length items → r ≡ found (own_cells (get_or items i d)) name → false ≡ is_some r
-    → found (flat_map own_cells (drop i items)) name ≡ found (flat_map own_cells (drop (i + 1) items)) name
-past-one items i d name None within own none =
-    rw (opened items i d within) (found-past (own_cells (get_or items i d)) (flat_map own_cells (drop (i + 1) items)) name (sym own))
-past-one items i d name (Some p) within own none = cc
-
-pub in-one : (items : List TypeNo) (i : ℕ) (d : TypeNo) (name : List ℕ) (r : Option Prop) → i < length items → r ≡ found (own_cells (get_or items i d)) name → true ≡ is_some r
-    → r ≡ found (flat_map own_cells (drop i items)) name
-in-one items i d name None within own some = cc
-in-one items i d name (Some p) within own some =
-    rw (opened items i d within) (sym (found-first (own_cells (get_or items i d)) (flat_map own_cells (drop (i + 1) items)) name p (sym own)))
+  pub in-one : (p : X → Bool) (items : List TypeNo) (i : ℕ) (d : TypeNo) (r : Option X) → i < length items → r ≡ find p (own (get_or items i d)) → is_some r ≡ true
+      → r ≡ find p (flat_map own (drop i items))
+  in-one p items i d None within own_is some = cc
+  in-one p items i d (Some x) within own_is some = rw (opened items i d within, find-append p (own (get_or items i d)) (flat_map own (drop (i + 1) items)), ← own_is) refl
 
 get-left : (xs ys : List TypeCell) (k : ℕ) → k < length xs → slice_get (xs ++ ys) k ≡ slice_get xs k
 get-left [] ys k within = absurd (let w : k < 0 = within in omega arith)
@@ -50,17 +40,17 @@ get-right (x ∷ xs) ys (suc k) past =
     let e : suc k - length (x ∷ xs) ≡ k - length xs = omega arith in
     rw e (get-right xs ys k (omega arith))
 
-get-told : (rows : List Row) (k : ℕ) (r : Row) → k < length rows → slice_get (map cell_of rows) k ≡ Some (cell_of (get_or rows k r))
+get-told : (cells : List Cell) (k : ℕ) (r : Cell) → k < length cells → slice_get (map cell_of cells) k ≡ Some (cell_of (get_or cells k r))
 get-told [] k r within = absurd (let w : k < 0 = within in omega arith)
 get-told (x ∷ xs) zero r within = refl
 get-told (x ∷ xs) (suc k) r within = get-told xs k r (let w : suc k < length (x ∷ xs) = within in omega arith)
 
-pub cell-in-one : (items : List TypeNo) (i k : ℕ) (d : TypeNo) (rows : List Row) (r : Row) → i < length items → map cell_of rows ≡ own_cells (get_or items i d) → k < length rows
-    → Some (cell_of (get_or rows k r)) ≡ slice_get (flat_map own_cells (drop i items)) k
-cell-in-one items i k d rows r within own inside =
-    rw (opened items i d within, ← own, get-left (map cell_of rows) (flat_map own_cells (drop (i + 1) items)) k (rw (length-map rows cell_of) inside)) (sym (get-told rows k r inside))
+pub cell-in-one : (items : List TypeNo) (i k : ℕ) (d : TypeNo) (cells : List Cell) (r : Cell) → i < length items → map cell_of cells ≡ own_cells (get_or items i d) → k < length cells
+    → Some (cell_of (get_or cells k r)) ≡ slice_get (flat_map own_cells (drop i items)) k
+cell-in-one items i k d cells r within own inside =
+    rw (opened own_cells items i d within, ← own, get-left (map cell_of cells) (flat_map own_cells (drop (i + 1) items)) k (rw (length-map cells cell_of) inside)) (sym (get-told cells k r inside))
 
-pub cell-past-one : (items : List TypeNo) (i k : ℕ) (d : TypeNo) (rows : List Row) → i < length items → map cell_of rows ≡ own_cells (get_or items i d) → length rows ≤ k
-    → slice_get (flat_map own_cells (drop i items)) k ≡ slice_get (flat_map own_cells (drop (i + 1) items)) (k - length rows)
-cell-past-one items i k d rows within own past =
-    rw (opened items i d within, ← own, get-right (map cell_of rows) (flat_map own_cells (drop (i + 1) items)) k (rw (length-map rows cell_of) past), length-map rows cell_of) refl
+pub cell-past-one : (items : List TypeNo) (i k : ℕ) (d : TypeNo) (cells : List Cell) → i < length items → map cell_of cells ≡ own_cells (get_or items i d) → length cells ≤ k
+    → slice_get (flat_map own_cells (drop i items)) k ≡ slice_get (flat_map own_cells (drop (i + 1) items)) (k - length cells)
+cell-past-one items i k d cells within own past =
+    rw (opened own_cells items i d within, ← own, get-right (map cell_of cells) (flat_map own_cells (drop (i + 1) items)) k (rw (length-map cells cell_of) past), length-map cells cell_of) refl

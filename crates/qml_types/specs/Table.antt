@@ -1,19 +1,19 @@
 -- The table of built-in types.
-use Rattle.std.specs.Prelude.{ℕ, ◌&&◌, List, [], ◌∷◌, codes, Bool, true, false, Option, Some, None, if◌then◌else◌}
+use Rattle.std.specs.Prelude.{ℕ, ◌&&◌, ◌-◌, List, [], ◌∷◌, codes, Bool, true, false, Option}
 use Rattle.std.specs.Str.{bytes_eq}
-use Rattle.std.specs.List.{flat_map}
+use Rattle.std.specs.List.{flat_map, find, list_any}
+use Rattle.std.specs.Option.{option_map}
 use Rattle.qml_types.specs.declared.kind.TypeNo.{TypeNo}
 use Rattle.qml_types.specs.declared.kind.TypeNo.TheVariants as no
 use Rattle.qml_types.specs.declared.kind.TypeRef.TheVariants.{Builtin}
 use Rattle.qml_types.specs.declared.kind.PropKind.{PropKind}
 use Rattle.qml_types.specs.declared.kind.PropKind.TheVariants as kind
 use Rattle.qml_types.specs.declared.kind.Access.{Access}
-use Rattle.qml_types.specs.declared.kind.Access.TheVariants.{Writable, ReadOnly, Hidden}
+use Rattle.qml_types.specs.declared.kind.Access.TheVariants.{Writable, Literal, Id, ReadOnly, Hidden}
 use Rattle.qml_types.specs.declared.kind.Start.{Start}
 use Rattle.qml_types.specs.declared.kind.Start.TheVariants as start
 use Rattle.qml_types.specs.declared.offers.Offer.{Offer}
-use Rattle.qml_types.specs.declared.cells.Row.{Row}
-use Rattle.qml_types.specs.declared.places.Prop.{Prop}
+use Rattle.qml_types.specs.declared.cells.Cell.{Cell}
 
 -- a module offers a type under a name
 pub record Offered : Type 0 where
@@ -50,24 +50,45 @@ offers =
     offer (codes "QtQuick") (codes "Loader") no.Loader ∷
     offer (codes "QmlRun") (codes "Host") no.Host ∷ []
 
+-- whether one of these offers is of the module
+abbrev pub is_offering : List Offered → List ℕ → Bool
+is_offering rows from = list_any (λ row. bytes_eq row.from from) rows
+
 -- the type that is offered under a name by a module
 abbrev pub offered : List Offered → List ℕ → List ℕ → Option TypeNo
-offered [] from name = None
-offered (row ∷ rest) from name = if bytes_eq row.from from && bytes_eq row.name name then Some row.no else offered rest from name
+offered rows from name = option_map (λ row. row.no) (find (λ row. bytes_eq row.from from && bytes_eq row.name name) rows)
 
--- a cell of an object: its place, name, kind, who may write it and what it holds at first
+-- a cell of an object: its place, name, kind, who gives it its values and what it holds at first; the place of the cell to
+-- which goes what is given for it, and the name by which the trace shows it
 pub record TypeCell : Type 0 where
   pub place : ℕ
   pub name : List ℕ
   pub kind : PropKind
   pub access : Access
   pub start : Start
+  pub goes_to : ℕ
+  pub shown_as : List ℕ
 
-abbrev pub cell_of : Row → TypeCell
-cell_of row = record { place = row.0; name = row.1.now; kind = row.2; access = row.3; start = row.4 }
+abbrev pub cell_of : Cell → TypeCell
+cell_of cell = record {
+  place = cell.place;
+  name = cell.name.now;
+  kind = cell.kind;
+  access = cell.access;
+  start = cell.start;
+  goes_to = cell.goes_to;
+  shown_as = cell.shown_as.now;
+}
 
 abbrev cell : ℕ → List ℕ → PropKind → Access → Start → TypeCell
-cell place name kind access start = record { place = place; name = name; kind = kind; access = access; start = start }
+cell place name kind access start = record { place = place; name = name; kind = kind; access = access; start = start; goes_to = place; shown_as = name }
+
+-- a cell that a built-in rule gives its values, and the hidden one before it, which holds what is given for it
+abbrev ruled : ℕ → List ℕ → TypeCell
+ruled place name = record { place = place; name = name; kind = kind.Bool; access = Writable; start = start.OfKind; goes_to = place - 1; shown_as = name }
+
+abbrev hidden : ℕ → List ℕ → List ℕ → TypeCell
+hidden place name shown_as = record { place = place; name = name; kind = kind.Bool; access = Hidden; start = start.True; goes_to = place; shown_as = shown_as }
 
 abbrev object : TypeNo → PropKind
 object type = kind.Object (Builtin type)
@@ -102,10 +123,10 @@ own_cells no.Item =
     cell 3 (codes "z") kind.Int Writable start.OfKind ∷
     cell 4 (codes "width") kind.Int Writable start.OfKind ∷
     cell 5 (codes "height") kind.Int Writable start.OfKind ∷
-    cell 6 (codes "visibleSet") kind.Bool Hidden start.True ∷
-    cell 7 (codes "visible") kind.Bool Writable start.OfKind ∷
-    cell 8 (codes "enabledSet") kind.Bool Hidden start.True ∷
-    cell 9 (codes "enabled") kind.Bool Writable start.OfKind ∷
+    hidden 6 (codes "visibleSet") (codes "visible") ∷
+    ruled 7 (codes "visible") ∷
+    hidden 8 (codes "enabledSet") (codes "enabled") ∷
+    ruled 9 (codes "enabled") ∷
     cell 10 (codes "state") kind.String Writable start.OfKind ∷
     cell 11 (codes "states") (list no.State) Writable start.OfKind ∷
     cell 12 (codes "parent") (object no.Item) ReadOnly start.OfKind ∷ []
@@ -120,19 +141,19 @@ own_cells no.Connections =
     cell 3 (codes "ignoreUnknownSignals") kind.Bool Writable start.OfKind ∷ []
 own_cells no.Binding =
     cell 1 (codes "target") (object no.QtObject) Writable start.OfKind ∷
-    cell 2 (codes "property") kind.String ReadOnly start.OfKind ∷
+    cell 2 (codes "property") kind.String Literal start.OfKind ∷
     cell 3 (codes "value") kind.Var Writable start.OfKind ∷
     cell 4 (codes "when") kind.Bool Writable start.True ∷
     cell 5 (codes "restoreMode") kind.String Writable start.RestoreBinding ∷ []
 own_cells no.State =
-    cell 1 (codes "name") kind.String ReadOnly start.OfKind ∷
+    cell 1 (codes "name") kind.String Literal start.OfKind ∷
     cell 2 (codes "when") kind.Bool Writable start.OfKind ∷
-    cell 3 (codes "extend") kind.String ReadOnly start.OfKind ∷
+    cell 3 (codes "extend") kind.String Literal start.OfKind ∷
     cell 4 (codes "changes") (list no.PropertyChanges) Writable start.OfKind ∷ []
 own_cells no.PropertyChanges =
-    cell 1 (codes "target") (object no.QtObject) ReadOnly start.OfKind ∷
-    cell 2 (codes "explicit") kind.Bool ReadOnly start.OfKind ∷
-    cell 3 (codes "restoreEntryValues") kind.Bool ReadOnly start.True ∷ []
+    cell 1 (codes "target") (object no.QtObject) Id start.OfKind ∷
+    cell 2 (codes "explicit") kind.Bool Literal start.OfKind ∷
+    cell 3 (codes "restoreEntryValues") kind.Bool Literal start.True ∷ []
 own_cells no.ListModel =
     cell 1 (codes "count") kind.Int ReadOnly start.OfKind ∷
     cell 2 (codes "rows") kind.Var Hidden start.OfKind ∷ []
@@ -148,30 +169,20 @@ own_cells no.Loader =
     cell 16 (codes "item") (object no.QtObject) ReadOnly start.OfKind ∷
     cell 17 (codes "status") kind.String ReadOnly start.NotLoaded ∷ []
 own_cells no.Host =
-    cell 1 (codes "key") kind.String ReadOnly start.OfKind ∷ []
+    cell 1 (codes "key") kind.String Literal start.OfKind ∷ []
 
 -- all cells of a type, those of its bases first
 abbrev pub cells_of : TypeNo → List TypeCell
 cells_of type = flat_map own_cells (lineage type)
 
 abbrev pub is_shown : Access → Bool
-is_shown Writable = true
-is_shown ReadOnly = true
 is_shown Hidden = false
+is_shown _ = true
 
 abbrev pub is_writable : Access → Bool
 is_writable Writable = true
-is_writable ReadOnly = false
-is_writable Hidden = false
-
--- what is told of a cell that is found by its name
-abbrev pub prop_of : TypeCell → Prop
-prop_of cell = record { place = cell.place; kind = cell.kind; writable = is_writable cell.access }
+is_writable _ = false
 
 -- the property of a name: the first cell that is shown by it
-abbrev pub found : List TypeCell → List ℕ → Option Prop
-found [] name = None
-found (cell ∷ rest) name =
-    if is_shown cell.access && bytes_eq cell.name name
-    then Some (prop_of cell)
-    else found rest name
+abbrev pub found : List TypeCell → List ℕ → Option TypeCell
+found cells name = find (λ cell. is_shown cell.access && bytes_eq cell.name name) cells

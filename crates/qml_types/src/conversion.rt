@@ -10,13 +10,16 @@ use crate::kind::{PropKind, TypeRef};
 use qml_text::{NoMemory, Text};
 use qml_value::{Kind, List, Num, Value};
 use std::alloc::Global;
+use thiserror::Error;
 
 /// Why a value isn't converted.
-#[derive(Clone, Copy, Debug, PartialEq, Eq)]
+#[derive(Clone, Copy, Debug, PartialEq, Eq, Error)]
 pub enum ConvertFault {
     /// The kind of property takes no value of the given kind, or not this object.
+    #[error("the property doesn't take this value, which is of kind {given}")]
     BadKind { given: Kind },
     /// There was no memory.
+    #[error("there was no memory")]
     NoMemory,
 }
 

@@ -1,7 +1,7 @@
 //! Finding a type by its module and name.
 
 ghost use Rattle.std.specs.Prelude.{◌≡◌, map};
-ghost use Rattle.qml_types.specs.Table.{offered, offers, offer_of};
+ghost use Rattle.qml_types.specs.Table.{offered, offers, offer_of, is_offering};
 
 use crate::kind::TypeNo;
 use crate::offers::{OFFERS, Offer};
@@ -23,4 +23,23 @@ fn offered_in(rows: &[Offer], module: &str, name: &str) -> Option<TypeNo>
         }
     }
     None
+}
+
+/// Whether there is a module of this name.
+pub fn is_module(name: &str) -> bool
+    ensures { result ≡ is_offering offers name.now }
+{
+    is_offered_by(&OFFERS, name)
+}
+
+/// Whether one of these offers is of the module.
+fn is_offered_by(rows: &[Offer], module: &str) -> bool
+    ensures { result ≡ is_offering (map offer_of rows.now) module.now }
+{
+    'rows: for row in rows {
+        if row.0 == module {
+            return true;
+        }
+    }
+    false
 }

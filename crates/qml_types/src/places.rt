@@ -1,30 +1,26 @@
-//! Finding a property of a type by its name, and a cell by its place.
+//! Finding a property of a type by its name, and a cell by its place; and what a cell holds at first.
 
-ghost use Rattle.std.specs.Prelude.{◌≡◌, map, slice_get};
+ghost use Rattle.std.specs.Prelude.{◌≡◌, length, map, slice_get, IfOk};
 ghost use Rattle.std.specs.Option.{option_map};
 ghost use Rattle.qml_types.specs.Table.{found, cells_of, cell_of};
-ghost use Rattle.qml_types.specs.Cells.{seen};
+ghost use Rattle.qml_value.specs.declared.value.Value.{Text as as_text};
+ghost use Rattle.qml_types.specs.First.{first_value, value_at_start as value_at};
 
-use crate::cells::{Row, own_rows};
-use crate::kind::{Access, PropKind, Start, TypeNo};
-
-/// A property that was found by its name.
-#[derive(Clone, Copy, Debug, PartialEq, Eq)]
-pub struct Prop {
-    /// Its place among the cells of an object of the type.
-    pub place: u32,
-    pub kind: PropKind,
-    /// Whether bindings and bodies may write it.
-    pub writable: bool,
-}
+use crate::cells::{Cell, own_cells};
+use crate::conversion::default_of;
+use crate::kind::{PropKind, Start, TypeNo};
+use qml_base::NoMemory;
+use qml_text::Text;
+use qml_value::{Num, Value};
+use std::alloc::Global;
 
 /// The property of this name that an object of the type has, those of its base types included, and None exactly where it
 /// has none. A hidden cell has no name.
-pub fn property(type_no: TypeNo, name: &str) -> Option<Prop>
-    ensures { result ≡ found (cells_of type_no) name.now }
+pub fn property(type_no: TypeNo, name: &str) -> Option<&'static Cell>
+    ensures { option_map (λ cell. cell_of cell.now) result ≡ found (cells_of type_no) name.now }
 {
     'bases: for base in type_no.lineage() {
-        let own = found_in(own_rows(*base), name);
+        let own = found_in(own_cells(*base), name);
         if own.is_some() {
             return own;
         }
@@ -33,59 +29,84 @@ pub fn property(type_no: TypeNo, name: &str) -> Option<Prop>
 }
 
 /// The first property of the name among these.
-fn found_in(rows: &[Row], name: &str) -> Option<Prop>
-    ensures { result ≡ found (map cell_of rows.now) name.now }
+fn found_in(cells: &'static [Cell], name: &str) -> Option<&'static Cell>
+    ensures { option_map (λ cell. cell_of cell.now) result ≡ found (map cell_of cells.now) name.now }
 {
-    'rows: for row in rows {
-        if row.3 != Access::Hidden && row.1 == name {
-            return Some(Prop {
-                place: row.0,
-                kind: row.2,
-                writable: row.3 == Access::Writable,
-            });
+    'cells: for cell in cells {
+        if cell.access.is_shown() && cell.name == name {
+            return Some(cell);
         }
     }
     None
-}
-
-/// A cell of a built-in type.
-#[derive(Clone, Copy, Debug)]
-pub struct Cell {
-    /// Its place among the cells of an object of the type.
-    pub place: u32,
-    /// Its name, by which a hidden cell isn't found.
-    pub name: &'static str,
-    pub kind: PropKind,
-    pub access: Access,
-    /// What it holds before anything is given for it.
-    pub start: Start,
 }
 
 /// The cell at this place that an object of the type has, those of its base types included, and None exactly where it has
 /// no such place.
-pub fn cell_at(type_no: TypeNo, place: u32) -> Option<Cell>
-    ensures { option_map seen result ≡ slice_get (cells_of type_no) place }
+pub fn cell_at(type_no: TypeNo, place: u32) -> Option<&'static Cell>
+    ensures { option_map (λ cell. cell_of cell.now) result ≡ slice_get (cells_of type_no) place }
 {
     let mut left = place as usize;
     'bases: for base in type_no.lineage() {
-        let rows = own_rows(*base);
-        if left < rows.len() {
-            return Some(told(&rows[left]));
+        let cells = own_cells(*base);
+        if left < cells.len() {
+            return Some(&cells[left]);
         }
-        left -= rows.len();
+        left -= cells.len();
     }
     None
 }
 
-/// The cell that a row of the table is.
-fn told(row: &Row) -> Cell
-    ensures { seen result ≡ cell_of row.now }
+/// How many cells an object of the type has.
+pub fn cell_count(type_no: TypeNo) -> u32
+    ensures { result ≡ length (cells_of type_no) }
 {
-    Cell {
-        place: row.0,
-        name: row.1,
-        kind: row.2,
-        access: row.3,
-        start: row.4,
+    match type_no {
+        TypeNo::ListElement => 0,
+        TypeNo::QtObject | TypeNo::Component => 1,
+        TypeNo::Host => 2,
+        TypeNo::ListModel => 3,
+        TypeNo::Connections | TypeNo::PropertyChanges => 4,
+        TypeNo::Timer | TypeNo::State => 5,
+        TypeNo::Binding => 6,
+        TypeNo::Item => 13,
+        TypeNo::Repeater => 16,
+        TypeNo::Loader => 18,
+    }
+}
+
+impl Cell {
+    /// What it holds before anything is given for it. `owner` is what its object is written in, or null.
+    pub fn first_value(&self, alloc: Global, owner: Value) -> Result<Value, NoMemory>
+        ensures { IfOk result (λ value. value ≡ first_value (cell_of self.now) owner) }
+    {
+        value_at_start(alloc, &self.kind, self.start, owner)
+    }
+}
+
+fn value_at_start(
+    alloc: Global,
+    kind: &PropKind,
+    start: Start,
+    owner: Value,
+) -> Result<Value, NoMemory>
+    ensures { IfOk result (λ value. value ≡ value_at kind.now owner start) }
+{
+    match start {
+        Start::OfKind => Ok(default_of(alloc, kind)),
+        Start::True => Ok(Value::Bool(true)),
+        Start::Number(n) => Ok(Value::Num(Num::small(n))),
+        Start::RestoreBinding => text(alloc, b"RestoreBinding"),
+        Start::NotLoaded => text(alloc, b"Null"),
+        Start::Owner => Ok(owner),
+    }
+}
+
+/// The text of these bytes, which are ASCII.
+fn text(alloc: Global, bytes: &[u8]) -> Result<Value, NoMemory>
+    ensures { IfOk result (λ value. value ≡ as_text bytes.now) }
+{
+    match Text::from_latin1(alloc, bytes) {
+        Ok(text) => Ok(Value::Text(text)),
+        Err(_) => Err(NoMemory),
     }
 }

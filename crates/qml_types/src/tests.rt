@@ -1,8 +1,9 @@
 //! The conversions of each kind of value to each kind of property as one table, and look-ups by the documentation.
 
 use crate::{
-    Access, ConvertFault, PropKind, Start, TypeNo, TypeRef, cell_at, convert, default_of, lookup,
-    property,
+    Access, ConvertFault, DefaultMember, Method, PropKind, TypeNo, TypeRef, basic_kind, cell_at,
+    cell_count, convert, default_member, default_of, enumeration_texts, find_method, find_signal,
+    is_module, lookup, property,
 };
 use qml_base::{ObjNo, UnitNo};
 use qml_text::{Text, TextFault};
@@ -97,30 +98,107 @@ fn finds_types_in_their_modules(rt: HostRuntime) -> Result<(), Fail> {
     );
     assert_eq!(rt; lookup("QtQuick", "Host"), None);
     assert_eq!(rt; lookup("QmlRun", "Host"), Some(TypeNo::Host));
+    assert!(rt; is_module("QtQml.Models"));
+    assert!(rt; !is_module("QtQuick.Controls"));
     Ok(())
 }
 
 #[test]
 fn finds_properties_at_their_places(rt: HostRuntime) -> Result<(), Fail> {
-    let alloc = rt.alloc();
     let count = property(TypeNo::Repeater, "count").ok_or("count")?;
     assert_eq!(rt;
-        (count.place, count.kind, count.writable),
-        (15, PropKind::Int, false)
+        (count.place, count.kind, count.access),
+        (15, PropKind::Int, Access::ReadOnly)
     );
     let width = property(TypeNo::Loader, "width").ok_or("width")?;
     assert_eq!(rt;
-        (width.place, width.kind, width.writable),
-        (4, PropKind::Int, true)
+        (width.place, width.kind, width.access),
+        (4, PropKind::Int, Access::Writable)
     );
-    assert_eq!(rt; property(TypeNo::Item, "visibleSet"), None);
-    assert_eq!(rt; property(TypeNo::Item, "count"), None);
-    let hidden = cell_at(TypeNo::Item, 6).ok_or("cell 6")?;
+    let key = property(TypeNo::Host, "key").ok_or("key")?;
+    assert_eq!(rt; key.access, Access::Literal);
+    let target = property(TypeNo::PropertyChanges, "target").ok_or("target")?;
+    assert_eq!(rt; target.access, Access::Id);
+    assert!(rt; property(TypeNo::Item, "visibleSet").is_none());
+    assert!(rt; property(TypeNo::Item, "count").is_none());
+    let shown = property(TypeNo::Repeater, "visible").ok_or("visible")?;
+    let hidden = cell_at(TypeNo::Repeater, shown.goes_to).ok_or("its cell")?;
     assert_eq!(rt;
-        (hidden.name, hidden.access, hidden.start),
-        ("visibleSet", Access::Hidden, Start::True)
+        (hidden.name, hidden.access, hidden.shown_as),
+        ("visibleSet", Access::Hidden, "visible")
     );
     assert!(rt; cell_at(TypeNo::Item, 13).is_none());
+    assert_eq!(rt; cell_count(TypeNo::Item), 13);
+    Ok(())
+}
+
+/// What a cell of the type holds at first has this text.
+fn starts(
+    rt: &impl Abort,
+    alloc: Global,
+    type_no: TypeNo,
+    name: &str,
+    wanted: &[u8],
+) -> Result<(), Fail> {
+    let cell = property(type_no, name).ok_or("cell")?;
+    let value = cell.first_value(alloc, Value::Object(ObjNo(7)))?;
+    assert_eq!(rt; value.text_of(alloc)?.to_utf8(alloc)?.as_slice(), wanted);
+    Ok(())
+}
+
+#[test]
+fn holds_at_first_what_the_table_says(rt: HostRuntime) -> Result<(), Fail> {
+    let alloc = rt.alloc();
+    starts(&rt, alloc, TypeNo::Item, "visible", b"false")?;
+    starts(&rt, alloc, TypeNo::Timer, "interval", b"1000")?;
+    starts(
+        &rt,
+        alloc,
+        TypeNo::Binding,
+        "restoreMode",
+        b"RestoreBinding",
+    )?;
+    starts(&rt, alloc, TypeNo::Binding, "when", b"true")?;
+    starts(&rt, alloc, TypeNo::Loader, "status", b"Null")?;
+    starts(&rt, alloc, TypeNo::Connections, "target", b"#7")?;
+    starts(&rt, alloc, TypeNo::Repeater, "delegate", b"null")?;
     assert!(rt; default_of(alloc, &PropKind::Url).same(&text(alloc, b"")?));
+    Ok(())
+}
+
+#[test]
+fn finds_signals_methods_and_the_rest(rt: HostRuntime) -> Result<(), Fail> {
+    let removed = find_signal(TypeNo::Repeater, "itemRemoved").ok_or("itemRemoved")?;
+    assert_eq!(rt;
+        (removed.place, removed.parameters),
+        (1, ["index", "item"].as_slice())
+    );
+    assert!(rt; find_signal(TypeNo::Item, "loaded").is_none());
+    assert_eq!(rt;
+        find_method(TypeNo::Timer, "restart"),
+        Some(Method::Restart)
+    );
+    assert_eq!(rt;
+        find_method(TypeNo::Loader, "destroy"),
+        Some(Method::Destroy)
+    );
+    assert_eq!(rt; find_method(TypeNo::Item, "restart"), None);
+    assert_eq!(rt;
+        default_member(TypeNo::Loader),
+        Some(DefaultMember::Children)
+    );
+    assert_eq!(rt; default_member(TypeNo::Timer), None);
+    assert_eq!(rt;
+        enumeration_texts("Loader"),
+        Some(["Null", "Ready", "Error"].as_slice())
+    );
+    assert_eq!(rt; enumeration_texts("Timer"), None);
+    assert_eq!(rt; basic_kind("color"), Some(PropKind::Color));
+    assert_eq!(rt; basic_kind("Item"), None);
+    let component = TypeRef::Builtin(TypeNo::Component);
+    assert_eq!(rt;
+        (component.kind(), ITEM.kind()),
+        (PropKind::Component, PropKind::Object(ITEM))
+    );
     Ok(())
 }

@@ -6,9 +6,9 @@ ghost use Rattle.qml_value.specs.Naming.{IsPut, HasDistinctNames};
 use crate::fields::PutFault;
 use crate::row::Row;
 use crate::value::{Field, Fields, Value};
-use crate::weight::MOST_NESTED;
 use indexmap::IndexMap;
-use qml_text::{NoMemory, Text};
+use qml_base::{DEPTH_LIMIT, NoMemory};
+use qml_text::Text;
 use std::alloc::Global;
 use std::marker::Model;
 
@@ -49,7 +49,7 @@ impl FieldsBuilder {
         ensures put { IsPut name.now value self.old self.new result }
         ensures distinct { HasDistinctNames self.old → HasDistinctNames self.new }
     {
-        if value.nesting() >= MOST_NESTED {
+        if value.nesting() >= DEPTH_LIMIT as usize {
             return Err(PutFault::TooDeep);
         }
         match Vec::from_slice(alloc, name.units()) {
@@ -70,7 +70,9 @@ impl FieldsBuilder {
         let mut rest = entries.into_iter();
         'fields: while let Some(pair) = rest.next() {
             let (units, value) = pair;
-            let name = Text::from_units(alloc, units)?;
+            let Ok(name) = Text::from_units(alloc, units) else {
+                return Err(NoMemory);
+            };
             parts.push(Field { name, value })?;
         }
         Ok(Row::of_vec(parts))

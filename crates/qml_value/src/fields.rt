@@ -6,16 +6,19 @@ ghost use Rattle.qml_value.specs.declared.fields.PutFault.TheVariants as fault;
 
 use crate::row::Row;
 use crate::value::{Field, Fields, Value};
-use crate::weight::MOST_NESTED;
+use qml_base::DEPTH_LIMIT;
 use qml_text::Text;
 use std::alloc::{AllocFailed, Global};
+use thiserror::Error;
 
 /// Why a value isn't put under a name.
-#[derive(Clone, Copy, Debug, PartialEq, Eq)]
+#[derive(Clone, Copy, Debug, PartialEq, Eq, Error)]
 pub enum PutFault {
     /// The fields would be nested more than 100 deep.
+    #[error("the fields would be nested more than {DEPTH_LIMIT} deep")]
     TooDeep,
     /// There was no memory.
+    #[error("there was no memory")]
     NoMemory,
 }
 
@@ -42,7 +45,7 @@ impl Row<Field> {
         ensures put { IsPut name value self.old self.new result }
         ensures distinct { HasDistinctNames self.old → HasDistinctNames self.new }
     {
-        if value.nesting() >= MOST_NESTED {
+        if value.nesting() >= DEPTH_LIMIT as usize {
             return Err(PutFault::TooDeep);
         }
         match place_of(self.parts(), &name) {

@@ -6,11 +6,13 @@
 
 mod builder;
 mod fields;
+mod gone;
 mod laws;
 mod list;
 mod number;
 mod row;
 mod same;
+mod scrub;
 #[cfg(test)]
 mod tests;
 mod text;
@@ -20,13 +22,13 @@ mod weight;
 
 pub use builder::FieldsBuilder;
 pub use fields::PutFault;
+pub use gone::GoneObjects;
 pub use laws::{
     one_value_under_a_name, parts_make_the_whole, puts_one_value, same_values_measure_the_same,
-    sameness_goes_by_contents, sameness_is_an_equivalence,
+    sameness_goes_by_contents, sameness_is_an_equivalence, scrubbing_changes_what_names_one,
 };
 pub use list::TooDeep;
 pub use number::{Num, PastLimit};
 pub use row::Row;
 pub use text::TextOfFault;
 pub use value::{Field, Fields, Kind, List, Value};
-pub use weight::{HEAVIEST, MOST_NESTED};

@@ -5,11 +5,14 @@ ghost use Rattle.qml_value.specs.Lists.{list_of};
 
 use crate::row::Row;
 use crate::value::{List, Value};
-use crate::weight::{MOST_NESTED, nesting_inside};
+use crate::weight::nesting_inside;
+use qml_base::DEPTH_LIMIT;
 use std::alloc::Global;
+use thiserror::Error;
 
 /// The list or the fields would be nested more than 100 deep.
-#[derive(Clone, Copy, Debug, PartialEq, Eq)]
+#[derive(Clone, Copy, Debug, PartialEq, Eq, Error)]
+#[error("the list or the fields would be nested more than {DEPTH_LIMIT} deep")]
 pub struct TooDeep;
 
 impl Row<Value> {
@@ -24,7 +27,7 @@ impl Row<Value> {
     pub fn from_vec(values: Vec<Value>) -> Result<List, TooDeep>
         ensures { result ≡ list_of values.items }
     {
-        if nesting_inside(&values) < MOST_NESTED {
+        if nesting_inside(&values) < DEPTH_LIMIT as usize {
             Ok(Row::of_vec(values))
         } else {
             Err(TooDeep)

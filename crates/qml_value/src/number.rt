@@ -3,14 +3,17 @@
 ghost use Rattle.std.specs.Prelude.{◌≡◌, ◌^◌, ◌≤◌, pos, unsigned_abs};
 ghost use Rattle.qml_value.specs.Numbers.{num_of};
 
+use qml_base::NUMBER_LIMIT;
 use std::marker::Model;
+use thiserror::Error;
 
 /// The greatest magnitude of a number: 2^53, up to which a number of ECMA-262 is exact (21.1.2.6
 /// Number.MAX_SAFE_INTEGER is one less).
-const GREATEST: i128 = 1 << 53;
+const GREATEST: i128 = NUMBER_LIMIT as i128;
 
 /// The number's magnitude passes 2^53.
-#[derive(Clone, Copy, Debug, PartialEq, Eq)]
+#[derive(Clone, Copy, Debug, PartialEq, Eq, Error)]
+#[error("the number passes {NUMBER_LIMIT} in magnitude")]
 pub struct PastLimit;
 
 /// A whole number of at most 2^53 in magnitude. Contracts see it as that integer.

@@ -1,6 +1,9 @@
 //! Each call once where it succeeds, the text of each kind, and the limits at their numbers.
 
-use crate::{Field, Kind, List, Num, PastLimit, PutFault, Row, TextOfFault, TooDeep, Value};
+use crate::{
+    Field, FieldsBuilder, GoneObjects, Kind, List, Num, PastLimit, PutFault, Row, TextOfFault,
+    TooDeep, Value,
+};
 use qml_base::ObjNo;
 use qml_text::{Text, TextFault};
 use std::alloc::Global;
@@ -137,5 +140,53 @@ fn refuses_to_nest_past_the_bound(rt: HostRuntime) -> Result<(), Fail> {
     let mut values = Vec::new(alloc);
     values.push(value)?;
     assert!(rt; matches!(List::from_vec(values), Err(TooDeep)));
+    Ok(())
+}
+
+/// `[#3, {a: component #9}, #4]`.
+fn references(alloc: Global) -> Result<Value, Fail> {
+    let mut builder = FieldsBuilder::new(alloc);
+    builder.put(alloc, &text(alloc, b"a")?, Value::Null)?;
+    builder.put(alloc, &text(alloc, b"a")?, Value::Component(ObjNo(9)))?;
+    let mut values = Vec::new(alloc);
+    values.push(Value::Object(ObjNo(3)))?;
+    values.push(Value::Fields(builder.finish(alloc)?))?;
+    values.push(Value::Object(ObjNo(4)))?;
+    Ok(Value::List(Row::from_vec(values)?))
+}
+
+#[test]
+fn scrubs_what_is_gone(rt: HostRuntime) -> Result<(), Fail> {
+    let alloc = rt.alloc();
+    let mut value = references(alloc)?;
+    assert!(rt; !value.scrub(&[ObjNo(1), ObjNo(5), ObjNo(8)]));
+    assert!(rt; value.same(&references(alloc)?));
+    assert!(rt; value.scrub(&[ObjNo(2), ObjNo(3), ObjNo(7)]));
+    says(&rt, alloc, &value, b",[object Object],#4")?;
+    let in_any_order = [ObjNo(9), ObjNo(4)];
+    let gone = GoneObjects::new(&in_any_order);
+    assert!(rt; value.names(&gone));
+    assert!(rt; value.scrub_by(&gone));
+    assert!(rt; !value.names(&gone));
+    says(&rt, alloc, &value, b",[object Object],")?;
+    assert!(rt; !gone.has(ObjNo(5)));
+    Ok(())
+}
+
+#[test]
+fn says_what_is_wrong(rt: HostRuntime) -> Result<(), Fail> {
+    let alloc = rt.alloc();
+    assert_eq!(rt;
+        format!(in alloc; "{TooDeep}")?.as_str(),
+        "the list or the fields would be nested more than 100 deep"
+    );
+    assert_eq!(rt;
+        format!(in alloc; "{PastLimit}")?.as_str(),
+        "the number passes 9007199254740992 in magnitude"
+    );
+    assert_eq!(rt;
+        format!(in alloc; "{}", TextOfFault::Heavy)?.as_str(),
+        "the text would weigh more than 1048576"
+    );
     Ok(())
 }

@@ -7,19 +7,22 @@ ghost use Rattle.qml_value.specs.Texts.{text_of, element_text, next_element_text
 ghost use Rattle.qml_value.specs.declared.text.TextOfFault.TheVariants as fault;
 
 use crate::value::Value;
-use qml_base::ObjNo;
+use qml_base::{ObjNo, WEIGHT_LIMIT};
 use qml_text::{NoMemory, Text, TextBuilder};
 use std::alloc::Global;
+use thiserror::Error;
 
 /// The most units of a text that is not too heavy: it weighs one more.
-const MOST_UNITS: usize = 1_048_575;
+const MOST_UNITS: usize = WEIGHT_LIMIT - 1;
 
 /// Why a value's text isn't given.
-#[derive(Clone, Copy, Debug, PartialEq, Eq)]
+#[derive(Clone, Copy, Debug, PartialEq, Eq, Error)]
 pub enum TextOfFault {
     /// The text would weigh more than 1,048,576.
+    #[error("the text would weigh more than {WEIGHT_LIMIT}")]
     Heavy,
     /// There was no memory.
+    #[error("there was no memory")]
     NoMemory,
 }
 

@@ -7,6 +7,7 @@ use crate::number::Num;
 use crate::row::Row;
 use qml_base::ObjNo;
 use qml_text::Text;
+use std::fmt;
 
 /// A value of the language (ECMA-262, 6.1, as far as whole numbers, lists and fields go), or a reference to an object.
 #[cycle(value)]
@@ -58,6 +59,23 @@ pub enum Kind {
     Fields,
     Object,
     Component,
+}
+
+impl fmt::Display for Kind {
+    fn fmt<W: fmt::Write>(&self, f: &mut fmt::Formatter<W>) -> fmt::Result {
+        let word = match self {
+            Kind::Undefined => "undefined",
+            Kind::Null => "null",
+            Kind::Bool => "bool",
+            Kind::Num => "number",
+            Kind::Text => "text",
+            Kind::List => "list",
+            Kind::Fields => "fields",
+            Kind::Object => "object",
+            Kind::Component => "Component",
+        };
+        write!(f, "{word}")
+    }
 }
 
 impl Value {

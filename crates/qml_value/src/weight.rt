@@ -4,13 +4,7 @@ ghost use Rattle.std.specs.Prelude.{◌≡◌, ◌+◌, ◌-◌, ◌^◌, ◌↔
 ghost use Rattle.qml_value.specs.Weights.{weight_of, nesting_of, deepest, deepest_field, IsTooHeavy};
 
 use crate::value::{Field, Value};
-
-/// The greatest weight that is not too heavy.
-pub const HEAVIEST: usize = 1_048_576;
-
-/// The greatest nesting that is not too heavy. No list or fields nested deeper can be built, so no call on a value goes
-/// down further than this.
-pub const MOST_NESTED: usize = 100;
+use qml_base::{DEPTH_LIMIT, WEIGHT_LIMIT};
 
 impl Value {
     /// Its weight, or `usize::MAX` where the weight passes that: 1 for each value, in it too, and for each unit of a text.
@@ -43,7 +37,7 @@ impl Value {
     pub fn is_too_heavy(&self) -> bool
         ensures { IsTrue result ↔ IsTooHeavy self.now }
     {
-        self.weight() > HEAVIEST || self.nesting() > MOST_NESTED
+        self.weight() > WEIGHT_LIMIT || self.nesting() > DEPTH_LIMIT as usize
     }
 }
 
