@@ -1,0 +1,156 @@
+//! One parsed text and a small world, over which tests evaluate.
+
+ghost use Rattle.std.specs.Prelude.{◌≡◌};
+ghost use Rattle.eval_tests.specs.Plain.{seen_at, found_cell, is_global, found_other, plain_names, no_code, text_in};
+
+use evaluation::{Seen, View};
+use js_operators::named;
+use js_subset::Code;
+use qml_base::{CellNo, ExprNo, Found, Home, ObjNo, UnitNo};
+use qml_syntax::Tree;
+use qml_text::Text;
+use qml_value::Value;
+
+/// A tree that every number tells, as an expression.
+#[derive(Drop)]
+pub struct OneText {
+    tree: Tree,
+}
+
+impl OneText {
+    /// The text of this tree.
+    pub fn of(tree: Tree) -> OneText
+        ensures { result.tree ≡ tree }
+    {
+        OneText { tree }
+    }
+}
+
+impl Code for OneText {
+    ghost meaning = { λ c. no_code };
+
+    ghost texts = { λ c text. text_in c.tree };
+
+    ghost tables = { λ c text. c.tree };
+
+    fn tree(&self, _text: ExprNo) -> Option<&Tree> {
+        Some(&self.tree)
+    }
+
+    fn place(&self, _text: ExprNo) -> usize {
+        self.tree.root()
+    }
+}
+
+/// Six cells of the object 1: `f` and `a` have these values, `rows` these rows; `loops` loops, `past` is past the limit and
+/// `later` isn't ready.
+#[derive(Drop)]
+pub struct Plain {
+    pub f: Value,
+    pub a: Value,
+    pub rows: Value,
+}
+
+/// What a name finds as a cell of the object 1.
+fn found_cell(name: &Text) -> Option<u32>
+    ensures { result ≡ found_cell name.now }
+{
+    if named(name, b"f") {
+        Some(0)
+    } else if named(name, b"a") {
+        Some(1)
+    } else if named(name, b"rows") {
+        Some(2)
+    } else if named(name, b"loops") {
+        Some(3)
+    } else if named(name, b"past") {
+        Some(4)
+    } else if named(name, b"later") {
+        Some(5)
+    } else {
+        None
+    }
+}
+
+/// Whether it is the name of a global.
+fn is_global(name: &Text) -> bool
+    ensures { result ≡ is_global name.now }
+{
+    named(name, b"undefined")
+        || named(name, b"Math")
+        || named(name, b"String")
+        || named(name, b"Qt")
+        || named(name, b"console")
+        || named(name, b"Loader")
+}
+
+/// What another name finds.
+fn found_other(name: &Text) -> Found
+    ensures { result ≡ found_other name.now }
+{
+    if named(name, b"item") {
+        Found::Object(ObjNo(2))
+    } else if named(name, b"part") {
+        Found::Component(ObjNo(3))
+    } else if named(name, b"sent") {
+        Found::Signal(ObjNo(1), 0)
+    } else if named(name, b"lib") {
+        Found::Script(UnitNo(1))
+    } else if is_global(name) {
+        Found::Global
+    } else {
+        Found::Nothing
+    }
+}
+
+impl View for Plain {
+    ghost seen = { λ v c. seen_at v.f v.a v.rows c.place };
+
+    ghost names = { λ v. plain_names };
+
+    fn read(&self, cell: CellNo) -> Seen<'_> {
+        match cell.place {
+            0 => Seen::Is(&self.f),
+            1 => Seen::Is(&self.a),
+            2 => Seen::Is(&self.rows),
+            3 => Seen::Loop,
+            4 => Seen::Past,
+            _ => Seen::Need,
+        }
+    }
+
+    fn resolve(&self, _home: Home, name: &Text) -> Found {
+        match found_cell(name) {
+            Some(place) => Found::Cell(CellNo {
+                object: ObjNo(1),
+                place,
+            }),
+            None => found_other(name),
+        }
+    }
+
+    fn member(&self, object: ObjNo, name: &Text) -> Found {
+        if named(name, b"itemAt") || named(name, b"get") {
+            Found::Method(
+                object,
+                Some(CellNo {
+                    object: ObjNo(1),
+                    place: 2,
+                }),
+            )
+        } else if named(name, b"append") {
+            Found::Method(object, None)
+        } else if named(name, b"a") {
+            Found::Cell(CellNo {
+                object: ObjNo(1),
+                place: 1,
+            })
+        } else {
+            Found::Nothing
+        }
+    }
+
+    fn is_id(&self, _home: Home, _name: &Text) -> bool {
+        true
+    }
+}

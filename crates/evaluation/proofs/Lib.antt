@@ -1,0 +1,2 @@
+pub mod EvaluatingLemmas
+pub mod HearingLemmas

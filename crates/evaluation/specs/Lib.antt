@@ -1,0 +1,3 @@
+pub mod Ask
+pub mod Evaluating
+pub mod Hearing

@@ -1,0 +1,9 @@
+pub mod Operate
+pub mod Rows
+pub mod Methods
+pub mod Locals
+pub mod Going
+pub mod Looking
+pub mod Calling
+pub mod Assigning
+pub mod Eval

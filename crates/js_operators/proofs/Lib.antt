@@ -1,0 +1,4 @@
+mod MemberLemmas
+mod WeightLemmas
+mod SearchLemmas
+mod MethodLemmas

@@ -1,0 +1,6 @@
+mod LaidLemmas
+mod ToldLemmas
+mod GoesLemmas
+mod BeginLemmas
+mod StepLemmas
+mod EndLemmas

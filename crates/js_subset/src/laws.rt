@@ -1,0 +1,25 @@
+//! Laws of the moves, each as the contract of a call that does nothing.
+
+ghost use Rattle.std.specs.Prelude.{◌≡◌, ℕ};
+ghost use Rattle.qml_value.specs.declared.value.Value.{Value};
+ghost use Rattle.js_subset.specs.declared.frames.Frame.{Frame};
+ghost use Rattle.js_subset.specs.declared.frames.Next.{Next as Upcoming};
+ghost use Rattle.js_subset.specs.declared.frames.Before.{Before as Stands};
+ghost use Rattle.js_subset.specs.declared.frames.Callee.{Callee as Called};
+ghost use Rattle.qml_syntax.specs.declared.operators.Prefix.{Prefix as Sign};
+ghost use Rattle.qml_syntax.specs.Opened.{node_of};
+ghost use Rattle.js_subset.specs.Laid.{Laid};
+ghost use Rattle.js_subset.specs.Standing.{Standing, with_frame};
+ghost use Rattle.js_subset.specs.Meant.{Where, World, around_at, told};
+ghost use Rattle.js_subset.specs.Moves.{BeginsCounted, Resumes, Steps, Signs, Args};
+
+use crate::frames::Next;
+
+/// What is heard in all is the same before and behind each move.
+pub fn moves_keep_what_is_heard()
+    ensures begun { (w : World) (c : Laid) (x : Where) (at : ℕ) (old new : Standing) (y : Upcoming) → BeginsCounted w c x.home at old new y → told w c (around_at x) new y ≡ told w c (around_at x) old (Next.Begin at) }
+    ensures resumed { (w : World) (c : Laid) (x : Where) (f : Frame) (v : Value) (old new : Standing) (y : Upcoming) → Resumes w c f v old new y → told w c (around_at x) new y ≡ told w c (around_at x) (with_frame f old) (Next.Back v) }
+    ensures stepped { (w : World) (c : Laid) (x : Where) (b : Stands) (p : ℕ) (old new : Standing) (y : Upcoming) → Steps w c x.home b p old new y → told w c (around_at x) new y ≡ told w c (around_at x) old (Next.Step b p) }
+    ensures signs { (w : World) (c : Laid) (x : Where) (g : Sign) (p : ℕ) (old new : Standing) (y : Upcoming) → Signs w c x.home g (node_of (c.item p)) p old new y → told w c (around_at x) new y ≡ told w c (around_at x) old (Next.Signs g p) }
+    ensures arguments { (w : World) (c : Laid) (x : Where) (f : Called) (q : ℕ) (old new : Standing) (y : Upcoming) → Args w c f q old new y → told w c (around_at x) new y ≡ told w c (around_at x) old (Next.Args f q) }
+{}

@@ -1,0 +1,32 @@
+//! Where the parts of a tree stand.
+
+ghost use Rattle.std.specs.Prelude.{◌≡◌, [], ◌∷◌, IfSome, MatchOption};
+ghost use Rattle.qml_syntax.specs.Opened.{node_of, parts_of, IsListing};
+ghost use Rattle.js_subset.specs.Laid.{laid, op_of, is_chain, is_choice, is_name};
+
+use qml_syntax::{Node, Operator, Tree};
+
+/// The node at a place.
+#[tactic(auto, using(crate::proofs::LaidLemmas::part_here))]
+pub(crate) fn node_at(tree: &Tree, at: usize) -> Option<&Node>
+    ensures { IfSome result (λ n. n.now ≡ node_of ((laid tree.now).item at)) }
+{
+    tree.node(at)
+}
+
+/// Where the first part of the node at a place stands.
+#[tactic(auto, using(crate::proofs::LaidLemmas::no_first_part, crate::proofs::LaidLemmas::first_part))]
+pub(crate) fn first_part(tree: &Tree, at: usize) -> Option<usize>
+    ensures { MatchOption result (parts_of ((laid tree.now).item at) ≡ []) (λ p. parts_of ((laid tree.now).item at) ≡ (laid tree.now).item p ∷ (laid tree.now).rest p) }
+{
+    let _root = tree.root();
+    tree.first(at)
+}
+
+/// Where the part behind one stands.
+#[tactic(auto, using(crate::proofs::LaidLemmas::no_next_part, crate::proofs::LaidLemmas::next_part))]
+pub(crate) fn next_part(tree: &Tree, part: usize) -> Option<usize>
+    ensures { MatchOption result ((laid tree.now).rest part ≡ []) (λ q. (laid tree.now).rest part ≡ (laid tree.now).item q ∷ (laid tree.now).rest q) }
+{
+    tree.next(part)
+}
