@@ -1,0 +1,38 @@
+use Rattle.std.proofs.Common.{◌≡◌, ◌∙◌, ◌++◌, ◌∷◌, [], ap, sym, subst, refl, ◌+◌, length, vec_len, false, arith}
+use Rattle.tree_model.specs.declared.cells.Object.{Object}
+use Rattle.object_tree.specs.Trees.{MayOwn}
+use Rattle.tree_model.specs.Removing.{doomed_of}
+use Rattle.object_tree.proofs.AddLemmas.{doomed_push, up_to_push, ordered_push, below, at_push}
+use Rattle.object_tree.proofs.tree.Tree.add.Goals as goal
+
+pub invariant_of-self-2 : goal.invariant_of-self-2
+invariant_of-self-2 c =
+    let old = c.self.inside in
+    let inv = c.self.invariant in
+    let number = c.len-given.result + 1 in
+    let given : c.len-given.result ≡ vec_len old.places = c.len-given.ensures in
+    let live : c.len-live.result ≡ vec_len old.objects = c.len-live.ensures in
+    let x : Object = record { number = record { 0 = number }; owner = c.args.owner; origin = c.args.origin; condemned = false } in
+    let objects : c.push-2.new.self.items ≡ old.objects.items ++ x ∷ [] = c.in_ok-push-2.ensures.items ∙ ap (λ l. l ++ x ∷ []) c.reserve-2.ensures.items in
+    let places : c.push.new.self.items ≡ old.places.items ++ length old.objects.items ∷ [] = c.in_ok-push.ensures.items ∙ ap (λ k. old.places.items ++ k ∷ []) (live ∙ old.objects.ok.0) in
+    let doomed : c.reserve.new.self.items ≡ old.doomed.items = c.reserve.ensures.items in
+    let more : vec_len c.push.new.self ≡ vec_len old.places + 1 = c.in_ok-push.ensures.len in
+    let owner = below (vec_len old.places) number old.objects.items c.args.owner (subst (λ t. MayOwn t.objects c.args.owner) (sym c.self.view_is) c.requires.owner) inv.4 (omega arith) in
+    let origin = below (vec_len old.places) number old.objects.items c.args.origin (subst (λ t. MayOwn t.objects c.args.origin) (sym c.self.view_is) c.requires.origin) inv.4 (omega arith) in
+    let same_len : vec_len old.places ≡ length old.places.items = old.places.ok.0 in
+    let up_to = inv.4 in
+    let room = c.in_ok-reserve.ensures.ok in
+    let asked = c.saturating_sub-room.ensures in
+    let added : vec_len c.push-2.new.self ≡ vec_len c.reserve-2.new.self + 1 = c.in_ok-push-2.ensures.len in
+    let was = c.reserve-2.ensures.len in
+    let were = c.reserve.ensures.len in
+    let long = c.len.ensures in
+    let listed = c.len-2.ensures in (
+      doomed ∙ inv.0 ∙ sym (ap doomed_of objects ∙ doomed_push old.objects.items x refl),
+      omega arith,
+      rw (objects, places) (at_push old.places.items old.objects.items x inv.2 (rw (← same_len) inv.4) inv.3 (omega arith)),
+      rw objects (ordered_push 0 (vec_len old.places) old.objects.items x inv.3 inv.4 (omega arith) (omega arith) owner origin),
+      rw objects (up_to_push (vec_len old.places) (vec_len c.push.new.self) old.objects.items x inv.4 (omega arith) (omega arith)),
+      omega arith,
+      omega arith,
+    )

@@ -1,0 +1,32 @@
+use Rattle.std.proofs.Common.{◌≡◌, ◌∙◌, ap, sym, subst, length, arith}
+use Rattle.tree_model.specs.Removing.{doomed_of}
+use Rattle.object_tree.specs.Trees.{IsAt, numbers_but}
+use Rattle.object_tree.proofs.MarkLemmas.{seam}
+use Rattle.object_tree.proofs.DropLemmas.{doomed_but, ordered_but, up_to_but}
+use Rattle.object_tree.proofs.tree.Tree.remove.Goals as goal
+
+pub place_all-requires-clause-given : goal.place_all-requires-clause-given
+place_all-requires-clause-given c =
+    let old = c.self.inside in
+    rw (c.as_slice.ensures.value, c.drop_object.ensures.items, c.as_mut_slice.ensures.value, ← old.places.ok.0) (up_to_but c.args.o old.places.len old.objects.items c.self.invariant.4)
+
+pub place_all-requires-clause-ordered : goal.place_all-requires-clause-ordered
+place_all-requires-clause-ordered c = rw (c.as_slice.ensures.value, c.drop_object.ensures.items) (ordered_but c.args.o 0 c.self.inside.objects.items c.self.invariant.3)
+
+pub invariant_of-self : goal.invariant_of-self
+invariant_of-self c =
+    let old = c.self.inside in
+    let inv = c.self.invariant in
+    let kept = c.drop_object.ensures.items in
+    let every : length c.place_all.new.places ≡ old.places.len = omega arith in
+    let placed = seam c.place_all.new.places old.places.items old.places.len every in
+    let fewer = c.drop_object.ensures.few in
+    let room = c.drop_number.ensures.room in (
+      c.drop_number.ensures.items ∙ ap (numbers_but c.args.o) inv.0 ∙ doomed_but c.args.o old.objects.items ∙ sym (ap doomed_of kept),
+      omega arith,
+      rw placed (subst (IsAt c.place_all.new.places) c.as_slice.ensures.value c.place_all.ensures),
+      rw kept (ordered_but c.args.o 0 old.objects.items inv.3),
+      rw kept (up_to_but c.args.o old.places.len old.objects.items inv.4),
+      omega arith,
+      inv.6,
+    )

@@ -1,0 +1,209 @@
+//! The tree.
+ghost use Rattle.std.specs.Prelude.{◌≡◌, ◌↔◌, ◌≢◌, ◌≤◌, ◌+◌, length, true, false, [], slice_index};
+ghost use Rattle.tree_model.specs.declared.cells.Object.{Object};
+ghost use Rattle.tree_model.specs.Doomed.{Doomed, Stands, Begins, is_marked, marked_from};
+ghost use Rattle.tree_model.specs.Settling.{stands};
+ghost use Rattle.object_tree.specs.Trees.{found, owner_of, is_there, objects_but, MayOwn, IsFull, Adds, IsAt};
+ghost use Rattle.tree_model.specs.Removing.{doomed_of, kept_of, AscendsFrom};
+
+use crate::marking::{condemn, drop_number, drop_object, keep, list_doomed, place_all};
+use crate::places::{condemned_in, find, stands_in};
+use qml_base::{OBJECT_LIMIT, ObjNo};
+use std::alloc::{AllocError, AllocFailed, Global};
+use std::marker::Model;
+use tree_model::Object;
+
+/// Why an object isn't added.
+#[derive(Clone, Copy, Debug, PartialEq, Eq)]
+pub enum AddFault {
+    /// So many objects are live, or the last number was given.
+    Full { live: u32 },
+    /// There was no memory.
+    NoMemory,
+}
+
+impl From<AllocError> for AddFault {
+    ghost use Rattle.std.specs.Prelude.{◌≡◌};
+    ghost use Rattle.object_tree.specs.declared.tree.AddFault.TheVariants as fault;
+
+    ghost from_gives = { λ _ e. e ≡ fault.NoMemory };
+
+    fn from(_e: AllocError) -> AddFault {
+        AddFault::NoMemory
+    }
+}
+
+impl<T: Drop> From<AllocFailed<T>> for AddFault {
+    ghost use Rattle.std.specs.Prelude.{◌≡◌};
+    ghost use Rattle.object_tree.specs.declared.tree.AddFault.TheVariants as fault;
+
+    ghost from_gives = { λ _ e. e ≡ fault.NoMemory };
+
+    fn from(_e: AllocFailed<T>) -> AddFault {
+        AddFault::NoMemory
+    }
+}
+
+/// Live objects with their owners and origins. Numbers are given in order and never again.
+#[derive(Drop)]
+pub struct Tree {
+    objects: Vec<Object>,
+    /// Where the object of each given number stands, or stood.
+    places: Vec<u32>,
+    /// The condemned objects, with room for all live ones.
+    doomed: Vec<ObjNo>,
+}
+
+impl Model for Tree {
+    ghost use Rattle.std.specs.Prelude.{◌≡◌, ◌≤◌, ◌<◌, ◌+◌, ◌^◌, length, vec_len, vec_capacity};
+    ghost use Rattle.object_tree.specs.Trees.{Objects, IsAt, AllUpTo};
+    ghost use Rattle.tree_model.specs.Removing.{doomed_of};
+    ghost use Rattle.tree_model.specs.Doomed.{IsOrdered};
+
+    ghost Value = { Objects };
+
+    ghost view = { λ t. record { objects = t.objects.items; given = vec_len t.places } };
+
+    ghost invariant = { λ t. (t.doomed.items ≡ doomed_of t.objects.items) × (vec_len t.objects ≤ vec_capacity t.doomed) × IsAt t.places.items t.objects.items × IsOrdered 0 t.objects.items × AllUpTo (vec_len t.places) t.objects.items × (vec_len t.objects ≤ 100000) × (vec_len t.places < 2 ^ 32) };
+}
+
+impl Tree {
+    /// No objects. It takes no memory.
+    pub fn new(alloc: Global) -> Tree
+        ensures objects { result.objects ≡ [] }
+        ensures given { result.given ≡ 0 }
+    {
+        Tree {
+            objects: Vec::new(alloc),
+            places: Vec::new(alloc),
+            doomed: Vec::new(alloc),
+        }
+    }
+
+    /// How many objects are live.
+    pub fn live(&self) -> u32
+        ensures { result ≡ length self.now.objects }
+    {
+        self.objects.len() as u32
+    }
+
+    /// How many numbers were given.
+    pub fn given(&self) -> u32
+        ensures { result ≡ self.now.given }
+    {
+        self.places.len() as u32
+    }
+
+    /// The live objects, in the order of their numbers.
+    pub fn objects(&self) -> &[Object]
+        ensures { result.now ≡ self.now.objects }
+    {
+        self.objects.as_slice()
+    }
+
+    /// The condemned objects, in the order of their numbers.
+    pub fn doomed(&self) -> &[ObjNo]
+        ensures numbers { result.now ≡ doomed_of self.now.objects }
+        ensures ascends { AscendsFrom 0 result.now }
+    {
+        self.doomed.as_slice()
+    }
+
+    /// Whether the number is that of a live object.
+    pub fn is_live(&self, o: ObjNo) -> bool
+        ensures { result ≡ is_there (found self.now.objects o) }
+    {
+        find(self.places.as_slice(), self.objects.as_slice(), o).is_some()
+    }
+
+    /// Whether the object is condemned.
+    pub fn is_condemned(&self, o: ObjNo) -> bool
+        ensures { result ≡ is_marked self.now.objects o }
+    {
+        condemned_in(self.places.as_slice(), self.objects.as_slice(), o)
+    }
+
+    /// Whether the object is live and isn't condemned.
+    pub fn stands(&self, o: ObjNo) -> bool
+        ensures { result ≡ stands self.now.objects o }
+    {
+        stands_in(self.places.as_slice(), self.objects.as_slice(), o)
+    }
+
+    /// The owner of the object.
+    pub fn owner(&self, o: ObjNo) -> Option<ObjNo>
+        ensures { result ≡ owner_of (found self.now.objects o) }
+    {
+        match find(self.places.as_slice(), self.objects.as_slice(), o) {
+            Some(object) => object.owner,
+            None => None,
+        }
+    }
+
+    /// Whether 100,000 objects are live or the last number was given.
+    pub fn is_full(&self) -> bool
+        ensures yes { result ≡ true → IsFull self.now }
+        ensures no { result ≡ false → ¬ (IsFull self.now) }
+    {
+        self.objects.len() as u32 >= OBJECT_LIMIT || self.places.len() as u32 == u32::MAX
+    }
+
+    /// Adds an object and gives it the next number. `Full` comes exactly where 100,000 objects are live or the last number
+    /// was given; on an error nothing changes.
+    pub fn add(&mut self, owner: Option<ObjNo>, origin: Option<ObjNo>) -> Result<ObjNo, AddFault>
+        requires owner { MayOwn self.old.objects owner }
+        requires origin { MayOwn self.old.objects origin }
+        ensures { Adds owner origin self.old result self.new }
+    {
+        let live = self.objects.len() as u32;
+        let given = self.places.len() as u32;
+        if live >= OBJECT_LIMIT || given == u32::MAX {
+            return Err(AddFault::Full { live });
+        }
+        let room = (self.objects.len() + 1).saturating_sub(self.doomed.len());
+        self.doomed.reserve(room)?;
+        self.objects.reserve(1)?;
+        self.places.push(live)?;
+        let number = ObjNo(given + 1);
+        let object = Object {
+            number,
+            owner,
+            origin,
+            condemned: false,
+        };
+        self.objects.push(object)?;
+        Ok(number)
+    }
+
+    /// Marks the object and all that is doomed with it: what a marked object owns, and what was made from one.
+    pub fn condemn(&mut self, o: ObjNo)
+        ensures marks { self.new.objects ≡ marked_from o [] self.old.objects }
+        ensures least { (x : Object) → Stands x self.old.objects → ((is_marked self.new.objects x.number ≡ true) ↔ Doomed self.old.objects (Begins o) x) }
+        ensures given { self.new.given ≡ self.old.given }
+    {
+        condemn(self.places.as_slice(), self.objects.as_mut_slice(), o);
+        list_doomed(&mut self.doomed, self.objects.as_slice());
+    }
+
+    /// Takes one condemned object away. Its number isn't given again.
+    pub fn remove(&mut self, o: ObjNo)
+        requires { is_marked self.old.objects o ≡ true }
+        ensures objects { self.new.objects ≡ objects_but o self.old.objects }
+        ensures given { self.new.given ≡ self.old.given }
+    {
+        drop_object(&mut self.objects, o);
+        drop_number(&mut self.doomed, o);
+        place_all(self.places.as_mut_slice(), self.objects.as_slice());
+    }
+
+    /// Takes all condemned objects away. Their numbers aren't given again.
+    pub fn remove_doomed(&mut self)
+        ensures objects { self.new.objects ≡ kept_of self.old.objects }
+        ensures given { self.new.given ≡ self.old.given }
+    {
+        let live = keep(self.objects.as_mut_slice());
+        self.objects.truncate(live);
+        place_all(self.places.as_mut_slice(), self.objects.as_slice());
+        self.doomed.clear();
+    }
+}

@@ -1,0 +1,6 @@
+//! Trees whose bindings copy cells, settled, condemned and purged, where there is memory: that the calls of the live tree
+//! succeed, and what they tell on small examples.
+#![tactic(auto)]
+
+#[cfg(test)]
+mod tests;

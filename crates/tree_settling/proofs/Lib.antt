@@ -1,0 +1,4 @@
+pub mod SweepLemmas
+pub mod ConvertLemmas
+pub mod TakingLemmas
+pub mod AnswerLemmas
