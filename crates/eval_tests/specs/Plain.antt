@@ -1,5 +1,5 @@
 -- The world of the tests: one text, six cells, and what names find.
-use Rattle.std.specs.Prelude.{ℕ, nat_eq, Bool as 𝔹, true, ◌||◌, if◌then◌else◌, List, [], codes, Option, Some, None}
+use Rattle.std.specs.Prelude.{ℕ, nat_eq, Bool as 𝔹, true, ◌||◌, if◌then◌else◌, List, [], map, codes, Option, Some, None}
 use Rattle.qml_base.specs.declared.numbers.CellNo.{CellNo}
 use Rattle.qml_base.specs.declared.numbers.ObjNo.{ObjNo}
 use Rattle.qml_base.specs.declared.names.Found.{Found}
@@ -11,7 +11,9 @@ use Rattle.qml_value.specs.declared.value.Value.{Value}
 use Rattle.evaluation.specs.Ask.{Names}
 use Rattle.evaluation.specs.Evaluating.{Seen, is, looped, past}
 use Rattle.js_meaning.specs.Operate.{same_units}
-use Rattle.js_meaning.specs.Eval.{Code}
+use Rattle.js_meaning.specs.Eval.{Code, Function}
+use Rattle.js_subset.specs.Laid.{laid, name_of, stmts_in}
+use Rattle.eval_tests.specs.declared.plain.Function.{Function as Own}
 
 abbrev pub text_or_none : Option Whole → Whole
 text_or_none (Some w) = w
@@ -20,8 +22,18 @@ text_or_none None = whole_body no_stmts
 abbrev pub text_in : Table → Whole
 text_in t = text_or_none (whole_in t)
 
-abbrev pub no_code : Code
-no_code = record { function = λ e. record { parameters = []; statements = no_stmts }; bound = λ e p. e }
+abbrev pub table_at : Table → Table → Table → ℕ → Table
+table_at a b c at = if nat_eq at 0 then a else if nat_eq at 1 then b else c
+
+-- the function whose parameters' names stand at these places, with the statements behind this one
+abbrev pub function_of : Table → List ℕ → ℕ → Function
+function_of t ps m = record { parameters = map (name_of (laid t)) ps; statements = stmts_in ((laid t).rest m) }
+
+abbrev pub function_at : Table → Own → Own → ℕ → Function
+function_at t f g at = if nat_eq at 0 then function_of t [] 0 else if nat_eq at 1 then function_of f.tree f.parameters.items f.mark else function_of g.tree g.parameters.items g.mark
+
+abbrev pub code_of : Table → Own → Own → Code
+code_of t f g = record { function = λ e. function_at t f g e.at; bound = λ e p. e }
 
 abbrev pub seen_at : Value → Value → Value → ℕ → Option Seen
 seen_at f a rows place =
@@ -51,6 +63,8 @@ is_global n = same_units n (codes "undefined") || same_units n (codes "Math") ||
 abbrev pub found_other : List ℕ → Found
 found_other n =
     if same_units n (codes "item") then found.Object (record { 0 = 2 })
+    else if same_units n (codes "first") then found.Body (record { unit = record { 0 = 0 }; at = 1 }) (record { 0 = 1 })
+    else if same_units n (codes "second") then found.Body (record { unit = record { 0 = 0 }; at = 2 }) (record { 0 = 1 })
     else if same_units n (codes "part") then found.Component (record { 0 = 3 })
     else if same_units n (codes "sent") then found.Signal (record { 0 = 1 }) 0
     else if same_units n (codes "lib") then found.Script (record { 0 = 1 })

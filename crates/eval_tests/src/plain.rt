@@ -1,7 +1,7 @@
 //! One parsed text and a small world, over which tests evaluate.
 
 ghost use Rattle.std.specs.Prelude.{◌≡◌};
-ghost use Rattle.eval_tests.specs.Plain.{seen_at, found_cell, is_global, found_other, plain_names, no_code, text_in};
+ghost use Rattle.eval_tests.specs.Plain.{seen_at, found_cell, is_global, found_other, plain_names, code_of, table_at, text_in};
 
 use evaluation::{Seen, View};
 use js_operators::named;
@@ -11,34 +11,80 @@ use qml_syntax::Tree;
 use qml_text::Text;
 use qml_value::Value;
 
-/// A tree that every number tells, as an expression.
+/// A function: its tree, where names stand that are those of its parameters, and the part behind which its statements are.
+#[derive(Drop)]
+pub struct Function {
+    pub tree: Tree,
+    pub parameters: Vec<usize>,
+    pub mark: usize,
+}
+
+/// A text, under number 0, and two functions.
 #[derive(Drop)]
 pub struct OneText {
-    tree: Tree,
+    text: Tree,
+    first: Function,
+    second: Function,
 }
 
 impl OneText {
-    /// The text of this tree.
-    pub fn of(tree: Tree) -> OneText
-        ensures { result.tree ≡ tree }
+    /// The text of this tree, with these functions.
+    pub fn of(text: Tree, first: Function, second: Function) -> OneText
+        ensures { (result.text ≡ text) × (result.first ≡ first) × (result.second ≡ second) }
     {
-        OneText { tree }
+        OneText {
+            text,
+            first,
+            second,
+        }
     }
 }
 
 impl Code for OneText {
-    ghost meaning = { λ c. no_code };
+    ghost meaning = { λ c. code_of c.text c.first c.second };
 
-    ghost texts = { λ c text. text_in c.tree };
+    ghost texts = { λ c text. text_in (table_at c.text c.first.tree c.second.tree text.at) };
 
-    ghost tables = { λ c text. c.tree };
+    ghost tables = { λ c text. table_at c.text c.first.tree c.second.tree text.at };
 
-    fn tree(&self, _text: ExprNo) -> Option<&Tree> {
-        Some(&self.tree)
+    fn tree(&self, text: ExprNo) -> Option<&Tree> {
+        if text.at == 0 {
+            Some(&self.text)
+        } else if text.at == 1 {
+            Some(&self.first.tree)
+        } else {
+            Some(&self.second.tree)
+        }
     }
 
-    fn place(&self, _text: ExprNo) -> usize {
-        self.tree.root()
+    fn place(&self, text: ExprNo) -> usize {
+        if text.at == 0 {
+            self.text.root()
+        } else if text.at == 1 {
+            self.first.tree.root()
+        } else {
+            self.second.tree.root()
+        }
+    }
+
+    fn parameters(&self, function: ExprNo) -> &[usize] {
+        if function.at == 0 {
+            &[]
+        } else if function.at == 1 {
+            self.first.parameters.as_slice()
+        } else {
+            self.second.parameters.as_slice()
+        }
+    }
+
+    fn statements(&self, function: ExprNo) -> usize {
+        if function.at == 0 {
+            0
+        } else if function.at == 1 {
+            self.first.mark
+        } else {
+            self.second.mark
+        }
     }
 }
 
@@ -90,6 +136,22 @@ fn found_other(name: &Text) -> Found
 {
     if named(name, b"item") {
         Found::Object(ObjNo(2))
+    } else if named(name, b"first") {
+        Found::Body(
+            ExprNo {
+                unit: UnitNo(0),
+                at: 1,
+            },
+            ObjNo(1),
+        )
+    } else if named(name, b"second") {
+        Found::Body(
+            ExprNo {
+                unit: UnitNo(0),
+                at: 2,
+            },
+            ObjNo(1),
+        )
     } else if named(name, b"part") {
         Found::Component(ObjNo(3))
     } else if named(name, b"sent") {

@@ -1,13 +1,13 @@
 //! Each expression with what it comes to and the names of the cells that it reads, in order.
 ghost use Rattle.std.specs.Prelude.{◌≡◌, ◌<◌};
 
-use crate::plain::{OneText, Plain};
+use crate::plain::{Function, OneText, Plain};
 use evaluation::{Evaluated, Rules};
-use js_parser::parse_expr;
+use js_parser::{parse_body, parse_expr};
 use js_subset::{Code, UnitRules, eval};
 use qml_base::{CellNo, ExprNo, Home, ObjNo, Steps, UnitNo};
 use qml_lexer::lex;
-use qml_syntax::Token;
+use qml_syntax::{Node, Token, Tree};
 use qml_text::Text;
 use qml_value::{List, Num, Value};
 use std::alloc::Global;
@@ -30,7 +30,7 @@ const HOME: Home = Home {
 };
 
 /// Expressions; what they come to, with the cells that they read.
-const EXPRESSIONS: [(&str, &str); 133] = [
+const EXPRESSIONS: [(&str, &str); 142] = [
     // whole numbers
     ("-7 % 3", "-1"),
     ("7 % -3", "1"),
@@ -134,6 +134,16 @@ const EXPRESSIONS: [(&str, &str); 133] = [
     ("f.a()", "Threw Call reads f"),
     ("Qt.binding", "Threw Kind"),
     ("Qt.binding(1)", "Threw Kind"),
+    // functions
+    ("first(2, 3)", "7"),
+    ("first(2)", "'undefined'"),
+    ("first(2, 3, later)", "Need later reads later"),
+    ("second(3)", "7 reads a"),
+    ("second(98)", "102 reads a"),
+    ("second(99)", "103 reads a"),
+    ("second(100)", "Threw Depth"),
+    ("second", "Threw Kind"),
+    ("typeof second(0)", "'number' reads a"),
     // methods of texts
     ("'abc'.charAt(1)", "'b'"),
     ("'abc'.charAt(-1)", "''"),
@@ -187,14 +197,63 @@ fn tokens(alloc: Global, source: &str) -> Result<Vec<Token>, Fail> {
     Ok(lex(alloc, source.as_bytes())?)
 }
 
-/// The text of an expression.
+/// Where a name stands in a tree, at first.
+fn place_of(alloc: Global, tree: &Tree, name: &str) -> Result<usize, Fail> {
+    let wanted = Text::from_str(alloc, name)?;
+    for at in 0..tree.len() {
+        if let Some(Node::Name(found, _)) = tree.node(at) {
+            if found.same(&wanted) {
+                return Ok(at);
+            }
+        }
+    }
+    Err(Fail::from("no such name"))
+}
+
+/// A function of these statements with these parameters.
+fn function(alloc: Global, parameters: &[&str], source: &str) -> Result<Function, Fail> {
+    let found = tokens(alloc, source)?;
+    let (tree, _end) = parse_body(alloc, &found, 0)?;
+    let mut places = Vec::new(alloc);
+    for name in parameters {
+        places.push(place_of(alloc, &tree, name)?)?;
+    }
+    let Some(mark) = tree.first(tree.root()) else {
+        return Err(Fail::from("no body"));
+    };
+    Ok(Function {
+        tree,
+        parameters: places,
+        mark,
+    })
+}
+
+/// The text of an expression, with the functions of the tests.
 fn text(alloc: Global, source: &str) -> Result<OneText, Fail> {
     let found = tokens(alloc, source)?;
     let (tree, end) = parse_expr(alloc, &found, 0)?;
     if end.saturating_add(1) != found.len() {
         return Err(Fail::from("not all is read"));
     }
-    Ok(OneText::of(tree))
+    with_functions(alloc, tree)
+}
+
+/// The text of a body, with the functions of the tests.
+fn body(alloc: Global, source: &str) -> Result<OneText, Fail> {
+    let found = tokens(alloc, source)?;
+    let (tree, _end) = parse_body(alloc, &found, 0)?;
+    with_functions(alloc, tree)
+}
+
+/// A text with the functions of the tests: `first(x, y)` and `second(n)`.
+fn with_functions(alloc: Global, tree: Tree) -> Result<OneText, Fail> {
+    let first = function(
+        alloc,
+        &["x", "y"],
+        "if (x === 'nest') { if (y < 1) return y; return [first(x, y - 1)] } if (y) { let z = x * y; return z + 1 } return typeof y",
+    )?;
+    let second = function(alloc, &["n"], "if (n < 1) return a; return second(n - 1) + 1")?;
+    Ok(OneText::of(tree, first, second))
 }
 
 /// Rows of a model: two, of which each has its number and its fields, here a text.
@@ -288,6 +347,75 @@ fn evaluates_each_expression(rt: HostRuntime) -> Result<(), Fail> {
     each_expression::<Brand>(&rt, rt.alloc(), Blank::new(1))
 }
 
+/// Bodies, and what they come to.
+const BODIES: [(&str, &str); 34] = [
+    // what is given back
+    ("return 1", "1"),
+    ("return", "undefined"),
+    ("", "undefined"),
+    ("a", "undefined reads a"),
+    ("return 1; later", "1"),
+    ("a; return later", "Need later reads a later"),
+    // conditions
+    ("if (f) return 1; else return 2", "1 reads f"),
+    ("if (!f) return 1; else return 2", "2 reads f"),
+    ("if (!f) return later; return 3", "3 reads f"),
+    ("if (0) return 1", "undefined"),
+    // locals
+    ("let x = 2; return x + x", "4"),
+    ("var x; return x", "undefined"),
+    ("return x; var x = 1", "undefined"),
+    ("return x; let x = 1", "Threw Name"),
+    ("return typeof x; let x = 1", "Threw Name"),
+    ("let x; return x", "undefined"),
+    ("const x = 3, y = x + 1; return y", "4"),
+    ("let x = 1; { let x = 2 } return x", "1"),
+    ("{ var x = 2 } return x", "2"),
+    ("{ let x = 2 } return x", "Threw Name"),
+    ("let a = 9; return a", "9"),
+    ("var x = 1; { var x = 2 } return x", "2"),
+    ("const x = 1; { var x = 2 } return x", "Threw Readonly"),
+    ("if (f) var x = 5; return x", "5 reads f"),
+    ("let x = 3; return first(x, x)", "10"),
+    ("var x = 'ab'; return x.length", "2"),
+    ("var x = 1; return x()", "Threw Call"),
+    // loops
+    ("while (f) return 4", "4 reads f"),
+    ("while (f) { let x = 1; break } return 6", "6 reads f"),
+    ("while (true) {}", "Threw Nodes"),
+    ("for (;;) { if (f) break; else continue } return 7", "7 reads f"),
+    ("for (let x = 1; x < 1; ) return 1; return 8", "8"),
+    ("for (var x = 5; ; ) return x", "5"),
+    ("for (let x = 5; false; ) {} return x", "Threw Name"),
+];
+
+/// What a body comes to.
+fn run_body<L: Ledger>(alloc: Global, source: &str, steps: &mut Steps<L>) -> Result<String, Fail> {
+    let code = body(alloc, source)?;
+    let view = world(alloc)?;
+    let mut reads = Vec::new(alloc);
+    let answer = eval(alloc, &view, &code, HOME, TEXT, &mut reads, steps);
+    shown(alloc, &answer, &reads)
+}
+
+fn each_body<L: Ledger>(rt: &impl Abort, alloc: Global, blank: Blank) -> Result<(), Fail>
+    requires name { blank.name ≡ L.name }
+    requires parts { blank.parts ≡ L.parts }
+    requires some { 0 < L.parts }
+{
+    let mut steps = Steps::<L>::new(blank);
+    for (source, wanted) in &BODIES {
+        let line = run_body(alloc, source, &mut steps)?;
+        assert_eq!(rt; line.as_str(), *wanted, "at {source}");
+    }
+    Ok(())
+}
+
+#[test]
+fn runs_each_body(rt: HostRuntime) -> Result<(), Fail> {
+    each_body::<Brand>(&rt, rt.alloc(), Blank::new(1))
+}
+
 /// Ones with `+` between them, and what they come to: a chain of so many begins one node more.
 const LONG: [(usize, &str); 2] = [(99_999, "99999"), (100_000, "Threw Nodes")];
 
@@ -311,6 +439,67 @@ fn long_chains<L: Ledger>(rt: &impl Abort, alloc: Global, blank: Blank) -> Resul
 #[test]
 fn begins_100_000_nodes_and_no_more(rt: HostRuntime) -> Result<(), Fail> {
     long_chains::<Brand>(&rt, rt.alloc(), Blank::new(1))
+}
+
+/// A text so many times over.
+fn repeated(alloc: Global, text: &str, count: usize) -> Result<String, Fail> {
+    let mut all = String::new(alloc);
+    for _ in 0..count {
+        all.push_str(text)?;
+    }
+    Ok(all)
+}
+
+/// Sources that are large or deep, made of a front, a part before and a part behind it so many times, and what they come to.
+const LARGE: [(&str, &str, &str, usize, &str); 4] = [
+    ("1", "", "+1", 399_999, "Threw Nodes"),
+    ("first('nest', 99)", "[", "]", 1, "[0]"),
+    ("first('nest', 99)", "[", "]", 2, "Threw Size"),
+    ("second(99)", "(", ")", 97, "103 reads a"),
+];
+
+fn each_large<L: Ledger>(rt: &impl Abort, alloc: Global, blank: Blank) -> Result<(), Fail>
+    requires name { blank.name ≡ L.name }
+    requires parts { blank.parts ≡ L.parts }
+    requires some { 0 < L.parts }
+{
+    let mut steps = Steps::<L>::new(blank);
+    for (front, before, behind, count, wanted) in &LARGE {
+        let mut source = repeated(alloc, before, *count)?;
+        source.push_str(front)?;
+        let end = repeated(alloc, behind, *count)?;
+        source.push_str(end.as_str())?;
+        let line = evaluated(alloc, source.as_str(), &mut steps)?;
+        assert_eq!(rt; line.as_str(), *wanted, "at {count} of {before}{behind}");
+    }
+    Ok(())
+}
+
+#[test]
+fn evaluates_large_and_deep_ones(rt: HostRuntime) -> Result<(), Fail> {
+    each_large::<Brand>(&rt, rt.alloc(), Blank::new(1))
+}
+
+fn long_text<L: Ledger>(rt: &impl Abort, alloc: Global, blank: Blank) -> Result<(), Fail>
+    requires name { blank.name ≡ L.name }
+    requires parts { blank.parts ≡ L.parts }
+    requires some { 0 < L.parts }
+{
+    let mut steps = Steps::<L>::new(blank);
+    let units = repeated(alloc, "a", 1_048_575)?;
+    let mut source = String::from_str(alloc, "'")?;
+    source.push_str(units.as_str())?;
+    source.push_str("' + '")?;
+    source.push_str(units.as_str())?;
+    source.push('\'')?;
+    let line = evaluated(alloc, source.as_str(), &mut steps)?;
+    assert_eq!(rt; line.as_str(), "Threw Size");
+    Ok(())
+}
+
+#[test]
+fn doubles_no_text_past_the_weight(rt: HostRuntime) -> Result<(), Fail> {
+    long_text::<Brand>(&rt, rt.alloc(), Blank::new(1))
 }
 
 /// What a text comes to by rules that are asked twice, with all cells that were read.

@@ -6,17 +6,17 @@ use Rattle.qml_syntax.specs.declared.operators.Operator.{Operator}
 use Rattle.qml_syntax.specs.declared.operators.Prefix.{Prefix}
 use Rattle.qml_syntax.specs.declared.operators.Prefix.TheVariants as prefix
 use Rattle.std.proofs.Common.{Some}
-use Rattle.qml_syntax.specs.Tree as docs
-use Rattle.qml_syntax.specs.Nodes as parts
 use Rattle.qml_syntax.specs.Tree.{Expr, name, number, text, literal, paren, list, fields, steps, bumped, signed, chain, choose, assign, Exprs, no_exprs, an_expr, Step, member, element, call, binding, Steps, no_steps, a_step, Signs, no_signs, a_sign, Links, no_links, a_link, Choices, no_choices, a_choice, Stmt, empty, expr, block, declare, when, either, while, for, give, stop, again, nothing, just, no_first, first_expr, first_declare}
 use Rattle.qml_syntax.specs.Nodes.{Item, mark, of_expr, of_step, of_stmt, of_key, of_sign, of_link, of_choice, of_target, of_var, of_first, of_maybe, of_body, top_expr}
+use Rattle.qml_syntax.specs.declared.node.Node.{Node}
+use Rattle.qml_syntax.specs.declared.node.Node.TheVariants as node
 use Rattle.qml_syntax.specs.Opened.{node_of, parts_of, last_link, exprs_parts, steps_parts, signs_parts, links_parts, choices_parts}
 use Rattle.qml_syntax.specs.Listed.{last_sign}
 use Rattle.qml_value.specs.declared.value.Value.{Text}
 use Rattle.evaluation.specs.Ask.{Ask}
 use Rattle.js_meaning.specs.Operate.{counts, bounded, weighed, operate_prefix}
 use Rattle.js_meaning.specs.Rows.{list_value}
-use Rattle.js_meaning.specs.Locals.{State}
+use Rattle.js_meaning.specs.Locals.{State, Scope}
 use Rattle.js_meaning.specs.Going.{Then, Around, throws, counted, given}
 use Rattle.js_meaning.specs.Looking.{name_value, added_by_prefix, prefixed_before, literal_value, last_prefix, prefixed, typed, typed_by, name_in}
 use Rattle.js_meaning.specs.Calling.{Before, a_value, a_name, before_value}
@@ -27,28 +27,29 @@ use Rattle.js_subset.specs.declared.frames.Next.{Next}
 use Rattle.js_subset.specs.declared.frames.Next.TheVariants as next
 use Rattle.js_subset.specs.declared.frames.Purpose.TheVariants as purpose
 use Rattle.js_subset.specs.declared.frames.To.TheVariants as to
-use Rattle.js_subset.specs.Laid.{Laid, name_at, is_name, is_bump, links_in, choices_in, last_in, steps_in, exprs_in}
-use Rattle.js_subset.specs.Standing.{Standing, without_node, state_of}
+use Rattle.js_subset.specs.Scopes.{scopes_of}
+use Rattle.js_subset.specs.Laid.{Laid, is_expr_node, name_at, is_name, is_bump, links_in, choices_in, last_in, steps_in, exprs_in}
+use Rattle.js_subset.specs.Standing.{Standing, without_node, state_of, kept}
 use Rattle.js_subset.specs.Meant.{Where, World, around_at, signs_then, then_of, told}
 use Rattle.js_subset.specs.Moves.{Turns, next_of, BeginsChain, BeginsSigned, BeginsSteps, Begins, BeginsCounted}
-use Rattle.js_subset.proofs.ToldLemmas.{on, turned, threw_on, pushed, told_next, plain, counted_more, counted_none, counted_some}
-use Rattle.js_subset.proofs.GoesLemmas.{found_on, all_on}
+use Rattle.js_subset.proofs.ToldLemmas.{on, turned, threw_on, pushed, told_next, state, counted_more, counted_none, counted_some}
+use Rattle.js_subset.proofs.GoesLemmas.{name_on, all_on}
+use Rattle.js_subset.proofs.NodeLemmas.{expr_item}
 
--- ---- what is no expression isn't begun
+-- ---- only expressions are begun
 
-no_stmt_begins : (w : World) (c : Laid) (x : Where) (d : Stmt) (at : ℕ) (old new : Standing) (y : Next) → Begins w c x.home (node_of (of_stmt d)) at old new y → ⊥
-no_stmt_begins w c x (empty p) at old new y h = h
-no_stmt_begins w c x (expr e q) at old new y h = h
-no_stmt_begins w c x (block p ss) at old new y h = h
-no_stmt_begins w c x (declare p q vs z) at old new y h = h
-no_stmt_begins w c x (when p e d) at old new y h = h
-no_stmt_begins w c x (either p e d r) at old new y h = h
-no_stmt_begins w c x (while p e d) at old new y h = h
-no_stmt_begins w c x (for p i e f d) at old new y h = h
-no_stmt_begins w c x (give p nothing q) at old new y h = h
-no_stmt_begins w c x (give p (just e) q) at old new y h = h
-no_stmt_begins w c x (stop p q) at old new y h = h
-no_stmt_begins w c x (again p q) at old new y h = h
+begins_expr_node : (w : World) (c : Laid) (x : Where) (n : Node) (at : ℕ) (old new : Standing) (y : Next) → Begins w c x.home n at old new y → is_expr_node n ≡ true
+begins_expr_node w c x (node.Name n p) at old new y h = refl
+begins_expr_node w c x (node.Number n p) at old new y h = refl
+begins_expr_node w c x (node.Text n p) at old new y h = refl
+begins_expr_node w c x (node.Literal l p) at old new y h = refl
+begins_expr_node w c x (node.Paren p) at old new y h = refl
+begins_expr_node w c x (node.List p b) at old new y h = refl
+begins_expr_node w c x node.Steps at old new y h = refl
+begins_expr_node w c x (node.Signed f g p) at old new y h = refl
+begins_expr_node w c x (node.Chain f o p) at old new y h = refl
+begins_expr_node w c x node.Choose at old new y h = refl
+begins_expr_node w c x _ at old new y h = absurd h
 
 -- ---- parts in a row are what they are parts of
 
@@ -102,8 +103,8 @@ first_is i j is js h = cc
 pub rest_is : (i j : Item) (is js : List Item) → i ∷ is ≡ j ∷ js → js ≡ is
 rest_is i j is js h = cc
 
-nexted : (w : World) (c : Laid) (a : Around) (e : _) (old new : Standing) (y : Next) → Turns (next_of e) old new y → told w c a new y ≡ on w old (given e (state_of old) (then_of c a old.frames))
-nexted w c a e old new y h = turned w c a (next_of e) old new y h ∙ told_next w c a old e
+nexted : (w : World) (c : Laid) (x : Where) (e : _) (old new : Standing) (y : Next) → Turns (next_of e) old new y → told w c x new y ≡ on w old (given e (state_of c old) (then_of c x old.frames))
+nexted w c x e old new y h = turned w c x (next_of e) old new y h ∙ told_next w c x old e
 
 pub no_name_link : (f : 𝔹) (o : Operator) (p : Place) (ls : Links) → is_name (last_link f o p ls) ≡ false
 no_name_link f o p no_links = refl
@@ -139,81 +140,81 @@ steps_behind c a i is b s k = stepped_on a (a_step i is) b s (λ d t. before_val
 
 steps_begin : (w : World) (c : Laid) (x : Where) (e : Expr) (i : Step) (is : Steps) (q : ℕ) (old new : Standing) (y : Next)
     → c.item q ≡ of_expr e → c.rest q ≡ of_step i ∷ steps_parts is → Named e → BeginsSteps (is_name (node_of (c.item q))) q old new y
-    → told w c (around_at x) new y ≡ on w old (eval (around_at x) (steps e i is) (plain (old.left + 1)) (then_of c (around_at x) old.frames))
+    → told w c x new y ≡ on w old (eval (around_at x) (steps e i is) (kept c old (old.left + 1)) (then_of c x old.frames))
 steps_begin w c x e i is q old new y ie re (a_name_is n p) h =
     let a : Around = around_at x in
-    let k : Then = then_of c a old.frames in
+    let k : Then = then_of c x old.frames in
     let g : State → Ask = λ s. counted s (λ t. steps_behind c a i is (a_name n) t k) in
     let b : BeginsSteps true q old new y = subst (λ (j : Item). BeginsSteps (is_name (node_of j)) q old new y) ie h in
     let se : steps_in (c.rest q) ≡ a_step i is = ap (λ z. steps_in z) re ∙ ap (λ z. a_step i z) (steps_are is) in
     let ne : name_at (node_of (c.item q)) ≡ n = ap (λ j. name_at (node_of j)) ie in
     elim b [
-      | inl l ↦ threw_on w c a cause.Nodes old new y l.1 ∙ ap (λ z. on w old z) (sym (counted_none old.left (λ t. steps_behind c a i is (a_name n) t k) l.0)) ∙ ap (λ z. on w old z) (sym (counted_more old.left g))
-      | inr r ↦ ap (λ m. told w c a m y) r.1 ∙ ap (λ z. told w c a (without_node old) z) r.2
-          ∙ ap (λ z. on w old (stepped_on a z (a_name (name_at (node_of (c.item q)))) (plain (old.left - 1)) (λ d t. before_value a d t k))) se
-          ∙ ap (λ z. on w old (steps_behind c a i is (a_name z) (plain (old.left - 1)) k)) ne
-          ∙ ap (λ z. on w old z) (sym (counted_some old.left (λ t. steps_behind c a i is (a_name n) t k) r.0)) ∙ ap (λ z. on w old z) (sym (counted_more old.left g))
+      | inl l ↦ threw_on w c x cause.Nodes old new y l.1 ∙ ap (λ z. on w old z) (sym (counted_none (scopes_of c old.locals) old.left (λ t. steps_behind c a i is (a_name n) t k) l.0)) ∙ ap (λ z. on w old z) (sym (counted_more (scopes_of c old.locals) old.left g))
+      | inr r ↦ ap (λ m. told w c x m y) r.1 ∙ ap (λ z. told w c x (without_node old) z) r.2
+          ∙ ap (λ z. on w old (stepped_on a z (a_name (name_at (node_of (c.item q)))) (kept c old (old.left - 1)) (λ d t. before_value a d t k))) se
+          ∙ ap (λ z. on w old (steps_behind c a i is (a_name z) (kept c old (old.left - 1)) k)) ne
+          ∙ ap (λ z. on w old z) (sym (counted_some (scopes_of c old.locals) old.left (λ t. steps_behind c a i is (a_name n) t k) r.0)) ∙ ap (λ z. on w old z) (sym (counted_more (scopes_of c old.locals) old.left g))
     ]
 steps_begin w c x e i is q old new y ie re (no_name_is f n) h =
     let a : Around = around_at x in
-    let k : Then = then_of c a old.frames in
+    let k : Then = then_of c x old.frames in
     let go : Option (List ℕ) → State → Ask = λ o s. first_before o s (λ t go. eval a e t go) (λ b t. steps_behind c a i is b t k) in
     let b : BeginsSteps false q old new y = subst (λ (z : 𝔹). BeginsSteps z q old new y) (ap (λ j. is_name (node_of j)) ie ∙ f) h in
     let se : steps_in (c.rest q) ≡ a_step i is = ap (λ z. steps_in z) re ∙ ap (λ z. a_step i z) (steps_are is) in
-    pushed w c a (frame.First q) q old new y b
-    ∙ ap (λ j. on w old (eval a (top_expr (j ∷ [])) (state_of old) (λ v t. stepped_on a (steps_in (c.rest q)) (a_value v) t (λ d u. before_value a d u k)))) ie
-    ∙ ap (λ z. on w old (eval a e (state_of old) (λ v t. stepped_on a z (a_value v) t (λ d u. before_value a d u k)))) se
-    ∙ ap (λ z. on w old (go z (state_of old))) (sym n)
-    ∙ ap (λ z. on w old z) (sym (counted_more old.left (go (name_in e))))
+    pushed w c x (frame.First q) q old new y b
+    ∙ ap (λ j. on w old (eval a (top_expr (j ∷ [])) (state_of c old) (λ v t. stepped_on a (steps_in (c.rest q)) (a_value v) t (λ d u. before_value a d u k)))) ie
+    ∙ ap (λ z. on w old (eval a e (state_of c old) (λ v t. stepped_on a z (a_value v) t (λ d u. before_value a d u k)))) se
+    ∙ ap (λ z. on w old (go z (state_of c old))) (sym n)
+    ∙ ap (λ z. on w old z) (sym (counted_more (scopes_of c old.locals) old.left (go (name_in e))))
 
 -- ---- all expressions that are begun
 
 begins_expr : (w : World) (c : Laid) (x : Where) (e : Expr) (at : ℕ) (old new : Standing) (y : Next)
     → c.item at ≡ of_expr e → Begins w c x.home (node_of (of_expr e)) at old new y
-    → told w c (around_at x) new y ≡ on w old (eval (around_at x) e (plain (old.left + 1)) (then_of c (around_at x) old.frames))
+    → told w c x new y ≡ on w old (eval (around_at x) e (kept c old (old.left + 1)) (then_of c x old.frames))
 begins_expr w c x (name n p) at old new y ie h =
-    found_on w c x to.Back n (w.names.resolve x.home n) old new y h
-    ∙ ap (λ z. on w old z) (sym (counted_more old.left (λ s. name_value (around_at x) n s (then_of c (around_at x) old.frames))))
+    name_on w c x to.Back n old new y h
+    ∙ ap (λ z. on w old z) (sym (counted_more (scopes_of c old.locals) old.left (λ s. name_value (around_at x) n s (then_of c x old.frames))))
 begins_expr w c x (number n p) at old new y ie h =
-    nexted w c (around_at x) (bounded (pos n)) old new y h
-    ∙ ap (λ z. on w old z) (sym (counted_more old.left (λ s. given (bounded (pos n)) s (then_of c (around_at x) old.frames))))
+    nexted w c x (bounded (pos n)) old new y h
+    ∙ ap (λ z. on w old z) (sym (counted_more (scopes_of c old.locals) old.left (λ s. given (bounded (pos n)) s (then_of c x old.frames))))
 begins_expr w c x (text us p) at old new y ie h =
-    nexted w c (around_at x) (weighed (Text us)) old new y h
-    ∙ ap (λ z. on w old z) (sym (counted_more old.left (λ s. given (weighed (Text us)) s (then_of c (around_at x) old.frames))))
+    nexted w c x (weighed (Text us)) old new y h
+    ∙ ap (λ z. on w old z) (sym (counted_more (scopes_of c old.locals) old.left (λ s. given (weighed (Text us)) s (then_of c x old.frames))))
 begins_expr w c x (literal l p) at old new y ie h =
-    turned w c (around_at x) (next.Back (literal_value l)) old new y h
-    ∙ ap (λ z. on w old z) (sym (counted_more old.left (λ s. then_of c (around_at x) old.frames (literal_value l) s)))
+    turned w c x (next.Back (literal_value l)) old new y h
+    ∙ ap (λ z. on w old z) (sym (counted_more (scopes_of c old.locals) old.left (λ s. then_of c x old.frames (literal_value l) s)))
 begins_expr w c x (paren p e) at old new y ie h =
     let a : Around = around_at x in
-    let k : Then = then_of c a old.frames in
+    let k : Then = then_of c x old.frames in
     let parts : of_expr e ∷ [] ≡ c.item h.0 ∷ c.rest h.0 = sym (ap (λ i. parts_of i) ie) ∙ h.1 in
-    turned w c a (next.Begin h.0) old new y h.2
-    ∙ ap (λ i. on w old (eval a (top_expr (i ∷ [])) (state_of old) k)) (first_is (of_expr e) (c.item h.0) [] (c.rest h.0) parts)
-    ∙ ap (λ z. on w old z) (sym (counted_more old.left (λ s. eval a e s k)))
+    turned w c x (next.Begin h.0) old new y h.2
+    ∙ ap (λ i. on w old (eval a (top_expr (i ∷ [])) (state_of c old) k)) (first_is (of_expr e) (c.item h.0) [] (c.rest h.0) parts)
+    ∙ ap (λ z. on w old z) (sym (counted_more (scopes_of c old.locals) old.left (λ s. eval a e s k)))
 begins_expr w c x (list p es b) at old new y ie h =
     let a : Around = around_at x in
-    let k : Then = then_of c a old.frames in
+    let k : Then = then_of c x old.frames in
     let go : Exprs → State → Ask = λ z s. eval_all a z [] s (λ vs t. given (weighed (list_value vs)) t k) in
     let parts : mark ∷ exprs_parts es ≡ c.item h.0 ∷ c.rest h.0 = sym (ap (λ i. parts_of i) ie) ∙ h.1 in
     all_on w c x purpose.List [] h.0 old new y h.2
-    ∙ ap (λ z. on w old (go (exprs_in z) (state_of old))) (rest_is mark (c.item h.0) (exprs_parts es) (c.rest h.0) parts)
-    ∙ ap (λ z. on w old (go z (state_of old))) (exprs_are es)
-    ∙ ap (λ z. on w old z) (sym (counted_more old.left (go es)))
+    ∙ ap (λ z. on w old (go (exprs_in z) (state_of c old))) (rest_is mark (c.item h.0) (exprs_parts es) (c.rest h.0) parts)
+    ∙ ap (λ z. on w old (go z (state_of c old))) (exprs_are es)
+    ∙ ap (λ z. on w old z) (sym (counted_more (scopes_of c old.locals) old.left (go es)))
 begins_expr w c x (chain e o p d ls) at old new y ie h =
     let a : Around = around_at x in
-    let k : Then = then_of c a old.frames in
+    let k : Then = then_of c x old.frames in
     let b : BeginsChain c None at old new y = chain_begins w c x true o p ls at old new y h in
     let q : ℕ = b.0 in
     let parts : of_expr e ∷ links_parts true o p d ls ≡ c.item q ∷ c.rest q = sym (ap (λ i. parts_of i) ie) ∙ b.1 in
     let le : links_in (node_of (c.item at)) (c.rest q) ≡ a_link o p d ls =
     ap (λ i. links_in (node_of i) (c.rest q)) ie ∙ ap (λ z. links_in (last_link true o p ls) z) (rest_is (of_expr e) (c.item q) (links_parts true o p d ls) (c.rest q) parts) ∙ links_are true o p d ls in
-    pushed w c a (frame.Chain None at q) q old new y b.2
-    ∙ ap (λ i. on w old (eval a (top_expr (i ∷ [])) (state_of old) (λ v t. linked a None (links_in (node_of (c.item at)) (c.rest q)) v t k))) (first_is (of_expr e) (c.item q) (links_parts true o p d ls) (c.rest q) parts)
-    ∙ ap (λ z. on w old (eval a e (state_of old) (λ v t. linked a None z v t k))) le
-    ∙ ap (λ z. on w old z) (sym (counted_more old.left (λ s. eval a e s (λ v t. linked a None (a_link o p d ls) v t k))))
+    pushed w c x (frame.Chain None at q) q old new y b.2
+    ∙ ap (λ i. on w old (eval a (top_expr (i ∷ [])) (state_of c old) (λ v t. linked a None (links_in (node_of (c.item at)) (c.rest q)) v t k))) (first_is (of_expr e) (c.item q) (links_parts true o p d ls) (c.rest q) parts)
+    ∙ ap (λ z. on w old (eval a e (state_of c old) (λ v t. linked a None z v t k))) le
+    ∙ ap (λ z. on w old z) (sym (counted_more (scopes_of c old.locals) old.left (λ s. eval a e s (λ v t. linked a None (a_link o p d ls) v t k))))
 begins_expr w c x (choose f e cs d) at old new y ie h =
     let a : Around = around_at x in
-    let k : Then = then_of c a old.frames in
+    let k : Then = then_of c x old.frames in
     let q : ℕ = h.0 in
     let t : ℕ = h.1 in
     let parts : of_choice true f e ∷ choices_parts cs d ≡ c.item q ∷ c.rest q = sym (ap (λ i. parts_of i) ie) ∙ h.2 in
@@ -221,26 +222,26 @@ begins_expr w c x (choose f e cs d) at old new y ie h =
     let re : c.rest q ≡ choices_parts cs d = rest_is (of_choice true f e) (c.item q) (choices_parts cs d) (c.rest q) parts in
     let inside : of_expr f ∷ of_expr e ∷ [] ≡ c.item t ∷ c.rest t = sym (ap (λ i. parts_of i) qe) ∙ h.3 in
     let go : Expr → Expr → Choices → Expr → State → Ask = λ f e cs d s. eval a f s (λ v u. if counts v then eval a e u k else chosen a cs u (λ r. eval a d r k) k) in
-    pushed w c a (frame.Choose q t) t old new y h.4
-    ∙ ap (λ i. on w old (go (top_expr (i ∷ [])) (top_expr (c.rest t)) (choices_in (c.rest q)) (last_in (c.rest q)) (state_of old))) (first_is (of_expr f) (c.item t) (of_expr e ∷ []) (c.rest t) inside)
-    ∙ ap (λ z. on w old (go f (top_expr z) (choices_in (c.rest q)) (last_in (c.rest q)) (state_of old))) (rest_is (of_expr f) (c.item t) (of_expr e ∷ []) (c.rest t) inside)
-    ∙ ap (λ z. on w old (go f e (choices_in z) (last_in z) (state_of old))) re
-    ∙ ap (λ z. on w old (go f e z (last_in (choices_parts cs d)) (state_of old))) (choices_are cs d)
-    ∙ ap (λ z. on w old (go f e cs z (state_of old))) (last_is cs d)
-    ∙ ap (λ z. on w old z) (sym (counted_more old.left (go f e cs d)))
+    pushed w c x (frame.Choose q t) t old new y h.4
+    ∙ ap (λ i. on w old (go (top_expr (i ∷ [])) (top_expr (c.rest t)) (choices_in (c.rest q)) (last_in (c.rest q)) (state_of c old))) (first_is (of_expr f) (c.item t) (of_expr e ∷ []) (c.rest t) inside)
+    ∙ ap (λ z. on w old (go f (top_expr z) (choices_in (c.rest q)) (last_in (c.rest q)) (state_of c old))) (rest_is (of_expr f) (c.item t) (of_expr e ∷ []) (c.rest t) inside)
+    ∙ ap (λ z. on w old (go f e (choices_in z) (last_in z) (state_of c old))) re
+    ∙ ap (λ z. on w old (go f e z (last_in (choices_parts cs d)) (state_of c old))) (choices_are cs d)
+    ∙ ap (λ z. on w old (go f e cs z (state_of c old))) (last_is cs d)
+    ∙ ap (λ z. on w old z) (sym (counted_more (scopes_of c old.locals) old.left (go f e cs d)))
 begins_expr w c x (signed g p ss e) at old new y ie h =
     let a : Around = around_at x in
-    let k : Then = then_of c a old.frames in
+    let k : Then = then_of c x old.frames in
     let b : BeginsSigned c (last_prefix g ss) at old new y = signs_begin w c x true g p ss at old new y h in
     let q : ℕ = (b.1).0 in
     let parts : signs_parts true g p ss e ≡ c.item q ∷ c.rest q = sym (ap (λ i. parts_of i) ie) ∙ (b.1).1 in
     let operand : State → Ask = λ s. typed (typed_by (last_prefix g ss) (name_in e)) a s (λ t go. eval a e t go) (λ v t. prefixed g ss v t k) in
     let go : Option ℤ → State → Ask = λ o s. signed_by o (λ z. eval_spot a e s (λ spot t. bumped_by a z spot t (λ old new u. prefixed_before g ss new u k))) (operand s) in
-    turned w c a (next.Signs (last_prefix g ss) q) old new y (b.1).2
-    ∙ ap (λ z. on w old (signs_then a (last_prefix g ss) z (state_of old) k)) (sym parts)
-    ∙ ap (λ z. on w old z) (signs_are a true g p ss e (state_of old) k)
-    ∙ ap (λ z. on w old (go z (state_of old))) (sym (no_bump (last_prefix g ss) b.0))
-    ∙ ap (λ z. on w old z) (sym (counted_more old.left (go (added_by_prefix (last_prefix g ss)))))
+    turned w c x (next.Signs (last_prefix g ss) q) old new y (b.1).2
+    ∙ ap (λ z. on w old (signs_then a (last_prefix g ss) z (state_of c old) k)) (sym parts)
+    ∙ ap (λ z. on w old z) (signs_are a true g p ss e (state_of c old) k)
+    ∙ ap (λ z. on w old (go z (state_of c old))) (sym (no_bump (last_prefix g ss) b.0))
+    ∙ ap (λ z. on w old z) (sym (counted_more (scopes_of c old.locals) old.left (go (added_by_prefix (last_prefix g ss)))))
 begins_expr w c x (steps e i is) at old new y ie h =
     let parts : of_expr e ∷ of_step i ∷ steps_parts is ≡ c.item h.0 ∷ c.rest h.0 = sym (ap (λ j. parts_of j) ie) ∙ h.1 in
     steps_begin w c x e i is h.0 old new y (first_is (of_expr e) (c.item h.0) (of_step i ∷ steps_parts is) (c.rest h.0) parts)
@@ -249,86 +250,41 @@ begins_expr w c x (fields p fs b) at old new y ie h = absurd h
 begins_expr w c x (bumped e i p) at old new y ie h = absurd h
 begins_expr w c x (assign t g p ts v) at old new y ie h = absurd h
 
-begins_item : (w : World) (c : Laid) (x : Where) (i : Item) (at : ℕ) (old new : Standing) (y : Next)
-    → c.item at ≡ i → Begins w c x.home (node_of i) at old new y
-    → told w c (around_at x) new y ≡ on w old (eval (around_at x) (top_expr (i ∷ [])) (plain (old.left + 1)) (then_of c (around_at x) old.frames))
-begins_item w c x (of_expr e) at old new y ie h = begins_expr w c x e at old new y ie h
-begins_item w c x (of_stmt d) at old new y ie h = absurd (no_stmt_begins w c x d at old new y h)
-begins_item w c x mark at old new y ie h = absurd h
-begins_item w c x (of_step (member n p)) at old new y ie h = absurd h
-begins_item w c x (of_step (element p e)) at old new y ie h = absurd h
-begins_item w c x (of_step (call p es)) at old new y ie h = absurd h
-begins_item w c x (of_step (binding p ss)) at old new y ie h = absurd h
-begins_item w c x (of_key q n p) at old new y ie h = absurd h
-begins_item w c x (of_sign f g p) at old new y ie h = absurd h
-begins_item w c x (of_link f o p d) at old new y ie h = absurd h
-begins_item w c x (of_choice f d e) at old new y ie h = absurd h
-begins_item w c x (of_target f t g p) at old new y ie h = absurd h
-begins_item w c x (of_var n p) at old new y ie h = absurd h
-begins_item w c x (of_first no_first) at old new y ie h = absurd h
-begins_item w c x (of_first (first_expr e)) at old new y ie h = absurd h
-begins_item w c x (of_first (first_declare p q vs)) at old new y ie h = absurd h
-begins_item w c x (of_maybe nothing) at old new y ie h = absurd h
-begins_item w c x (of_maybe (just e)) at old new y ie h = absurd h
-begins_item w c x (of_body ss) at old new y ie h = absurd h
-begins_item w c x (parts.of_name n1 r1) at old new y ie h = absurd h
-begins_item w c x (parts.of_dot n1) at old new y ie h = absurd h
-begins_item w c x (parts.of_file n1 r1) at old new y ie h = absurd h
-begins_item w c x (parts.of_qualifier None) at old new y ie h = absurd h
-begins_item w c x (parts.of_qualifier (Some q1)) at old new y ie h = absurd h
-begins_item w c x (parts.of_import (docs.import_module n1 r1 ns1 v1 q1 c1)) at old new y ie h = absurd h
-begins_item w c x (parts.of_import (docs.import_text n1 r1 q1 c1)) at old new y ie h = absurd h
-begins_item w c x (parts.of_kind None) at old new y ie h = absurd h
-begins_item w c x (parts.of_kind (Some docs.kind_var)) at old new y ie h = absurd h
-begins_item w c x (parts.of_kind (Some (docs.kind_name n1 r1 ns1))) at old new y ie h = absurd h
-begins_item w c x (parts.of_kind (Some (docs.kind_list n1 r1))) at old new y ie h = absurd h
-begins_item w c x (parts.of_par_name n1) at old new y ie h = absurd h
-begins_item w c x (parts.of_par n1 q1) at old new y ie h = absurd h
-begins_item w c x (parts.of_signal_par q1 n1) at old new y ie h = absurd h
-begins_item w c x (parts.of_function (docs.function r1 n1 r2 ps1 q1 ss1)) at old new y ie h = absurd h
-begins_item w c x (parts.of_member x1 true) at old new y ie h = absurd h
-begins_item w c x (parts.of_member (docs.id r1 n1 r2 c1) false) at old new y ie h = absurd h
-begins_item w c x (parts.of_member (docs.property r1 d1 q1 n1 r2 v1) false) at old new y ie h = absurd h
-begins_item w c x (parts.of_member (docs.bare r1 d1 q1 n1 r2 c1) false) at old new y ie h = absurd h
-begins_item w c x (parts.of_member (docs.alias r1 d1 n1 r2 n2 r3 ns1 c1) false) at old new y ie h = absurd h
-begins_item w c x (parts.of_member (docs.signal r1 n1 r2 None c1) false) at old new y ie h = absurd h
-begins_item w c x (parts.of_member (docs.signal r1 n1 r2 (Some ps1) c1) false) at old new y ie h = absurd h
-begins_item w c x (parts.of_member (docs.method f1) false) at old new y ie h = absurd h
-begins_item w c x (parts.of_member (docs.given n1 r1 ns1 v1) false) at old new y ie h = absurd h
-begins_item w c x (parts.of_member (docs.group n1 r1 ns1 ms1) false) at old new y ie h = absurd h
-begins_item w c x (parts.of_member (docs.child o1) false) at old new y ie h = absurd h
-begins_item w c x (parts.of_object o1) at old new y ie h = absurd h
-begins_item w c x (parts.of_objects r1 os1) at old new y ie h = absurd h
-begins_item w c x (parts.of_document d1) at old new y ie h = absurd h
-begins_item w c x (parts.of_script (docs.script b1 fs1)) at old new y ie h = absurd h
+begins_item : (w : World) (c : Laid) (x : Where) (at : ℕ) (old new : Standing) (y : Next)
+    → Begins w c x.home (node_of (c.item at)) at old new y
+    → told w c x new y ≡ on w old (eval (around_at x) (top_expr (c.item at ∷ [])) (kept c old (old.left + 1)) (then_of c x old.frames))
+begins_item w c x at old new y h =
+    let r : (e : Expr) × (c.item at ≡ of_expr e) = expr_item (node_of (c.item at)) (c.item at) refl (begins_expr_node w c x (node_of (c.item at)) at old new y h) in
+    begins_expr w c x r.0 at old new y r.1 (subst (λ (j : Item). Begins w c x.home (node_of j) at old new y) r.1 h)
+    ∙ ap (λ j. on w old (eval (around_at x) (top_expr (j ∷ [])) (kept c old (old.left + 1)) (then_of c x old.frames))) (sym r.1)
 
 -- each expression counts one
-zero_left : (a : Around) (e : Expr) (k : Then) → eval a e (plain 0) k ≡ throws cause.Nodes
-zero_left a (name m p) k = refl
-zero_left a (number m p) k = refl
-zero_left a (text us p) k = refl
-zero_left a (literal l p) k = refl
-zero_left a (paren p e) k = refl
-zero_left a (list p es c) k = refl
-zero_left a (fields p fs c) k = refl
-zero_left a (steps e i is) k = refl
-zero_left a (bumped e i p) k = refl
-zero_left a (signed g p ss e) k = refl
-zero_left a (chain e o p d ls) k = refl
-zero_left a (choose f e cs d) k = refl
-zero_left a (assign t g p ts v) k = refl
+zero_left : (a : Around) (xs : List Scope) (e : Expr) (k : Then) → eval a e (state xs 0) k ≡ throws cause.Nodes
+zero_left a xs (name m p) k = refl
+zero_left a xs (number m p) k = refl
+zero_left a xs (text us p) k = refl
+zero_left a xs (literal l p) k = refl
+zero_left a xs (paren p e) k = refl
+zero_left a xs (list p es c) k = refl
+zero_left a xs (fields p fs c) k = refl
+zero_left a xs (steps e i is) k = refl
+zero_left a xs (bumped e i p) k = refl
+zero_left a xs (signed g p ss e) k = refl
+zero_left a xs (chain e o p d ls) k = refl
+zero_left a xs (choose f e cs d) k = refl
+zero_left a xs (assign t g p ts v) k = refl
 
-none_left : (a : Around) (e : Expr) (n : ℕ) (k : Then) → n ≡ 0 → eval a e (plain n) k ≡ throws cause.Nodes
-none_left a e n k h = ap (λ z. eval a e (plain z) k) h ∙ zero_left a e k
+none_left : (a : Around) (xs : List Scope) (e : Expr) (n : ℕ) (k : Then) → n ≡ 0 → eval a e (state xs n) k ≡ throws cause.Nodes
+none_left a xs e n k h = ap (λ z. eval a e (state xs z) k) h ∙ zero_left a xs e k
 
 pub begun_on : (w : World) (c : Laid) (x : Where) (at : ℕ) (old new : Standing) (y : Next)
-    → BeginsCounted w c x.home at old new y → told w c (around_at x) new y ≡ told w c (around_at x) old (next.Begin at)
+    → BeginsCounted w c x.home at old new y → told w c x new y ≡ told w c x old (next.Begin at)
 begun_on w c x at old new y h =
     let a : Around = around_at x in
-    let k : Then = then_of c a old.frames in
+    let k : Then = then_of c x old.frames in
     let e : Expr = top_expr (c.item at ∷ []) in
     elim h [
-      | inl l ↦ threw_on w c a cause.Nodes old new y l.1 ∙ ap (λ z. on w old z) (sym (none_left a e old.left k l.0))
-      | inr r ↦ begins_item w c x (c.item at) at (without_node old) new y refl r.1
-          ∙ (let m : old.left - 1 + 1 ≡ old.left = omega (arith, r.0) in ap (λ z. on w old (eval a e (plain z) k)) m)
+      | inl l ↦ threw_on w c x cause.Nodes old new y l.1 ∙ ap (λ z. on w old z) (sym (none_left a (scopes_of c old.locals) e old.left k l.0))
+      | inr r ↦ begins_item w c x at (without_node old) new y r.1
+          ∙ (let m : old.left - 1 + 1 ≡ old.left = omega (arith, r.0) in ap (λ z. on w old (eval a e (kept c old z) k)) m)
     ]

@@ -1,6 +1,13 @@
 mod LaidLemmas
+mod NodeLemmas
 mod ToldLemmas
+mod ScopeLemmas
 mod GoesLemmas
 mod BeginLemmas
 mod StepLemmas
+mod ArgumentLemmas
+mod GatheringLemmas
+mod StatementLemmas
+mod CallLemmas
+mod StartLemmas
 mod EndLemmas

@@ -1,5 +1,5 @@
 -- Each step, call, prefix and choice that goes on changes nothing of what is heard in all.
-use Rattle.std.proofs.Common.{◌≡◌, ◌∙◌, ap, sym, refl, inl, inr, ◌⊎◌, ℕ, ◌-◌, Bool as 𝔹, true, false, ◌&&◌, cond, if◌then◌else◌, List, [], ◌∷◌, ◌++◌, reverse, codes, Option, Some, None}
+use Rattle.std.proofs.Common.{◌≡◌, ◌∙◌, ap, sym, refl, subst, inl, inr, ◌⊎◌, ℕ, ◌-◌, Bool as 𝔹, true, false, ◌&&◌, cond, if◌then◌else◌, List, [], ◌∷◌, ◌++◌, reverse, codes, Option, Some, None}
 use Rattle.qml_base.specs.declared.numbers.Place.{Place}
 use Rattle.qml_base.specs.declared.numbers.ObjNo.{ObjNo}
 use Rattle.qml_base.specs.declared.numbers.CellNo.{CellNo}
@@ -12,20 +12,17 @@ use Rattle.qml_syntax.specs.declared.operators.Prefix.{Prefix}
 use Rattle.qml_syntax.specs.declared.operators.Prefix.TheVariants as prefix
 use Rattle.qml_syntax.specs.declared.node.Node.{Node}
 use Rattle.qml_syntax.specs.declared.node.Node.TheVariants as node
-use Rattle.qml_syntax.specs.Tree as docs
-use Rattle.qml_syntax.specs.Nodes as parts
 use Rattle.qml_syntax.specs.Tree.{Expr, name, number, text, literal, paren, list, fields, steps, bumped, signed, chain, choose, assign, Exprs, an_expr, Step, member, element, call, binding, Signs, no_signs, a_sign, Links, no_links, a_link, Stmt, empty, expr, block, declare, when, either, while, for, give, stop, again, nothing, just, no_first, first_expr, first_declare}
-use Rattle.qml_syntax.proofs.GatherLemmas.{level_is_made}
-use Rattle.qml_syntax.specs.Nodes.{apply, below, Item, mark, of_expr, of_step, of_stmt, of_key, of_sign, of_link, of_choice, of_target, of_var, of_first, of_maybe, of_body, top_expr}
+use Rattle.qml_syntax.specs.Nodes.{apply, below, Parts, Item, mark, of_expr, of_step, of_stmt, of_key, of_sign, of_link, of_choice, of_target, of_var, of_first, of_maybe, of_body, top_expr}
 use Rattle.qml_syntax.specs.Opened.{node_of, parts_of, last_link, links_parts}
 use Rattle.qml_syntax.specs.Listed.{last_sign}
 use Rattle.qml_value.specs.declared.value.Value.{Value, Undefined, Null, Bool, Num, Text, List', Fields', Object, Component}
 use Rattle.evaluation.specs.Ask.{Ask, finds, by_id}
 use Rattle.js_meaning.specs.declared.rounding.Rounding.{Rounding}
 use Rattle.js_meaning.specs.Operate.{counts, same_units, operate_prefix}
-use Rattle.js_meaning.specs.Locals.{State}
+use Rattle.js_meaning.specs.Locals.{State, local}
 use Rattle.js_meaning.specs.Going.{Then, Around, throws, given}
-use Rattle.js_meaning.specs.Looking.{found_or_undefined, element_of, typed, typed_by, name_in}
+use Rattle.js_meaning.specs.Looking.{found_or_undefined, local_or, element_of, typed, typed_by, name_in}
 use Rattle.js_meaning.specs.Calling.{Callee, of_body, of_math, of_text, of_log, of_nothing, method_callee, Before, a_value, a_name, of_value, of_global, a_binding, is_enumerated, is_qt_binding, script_home, before_value, before_member, before_callee, name_before, found_before, found_callee, member_callee, value_callee, script_callee, called}
 use Rattle.js_meaning.specs.Eval.{eval, eval_all, eval_first, linked, chosen, stepped, stepped_on, rounding_of}
 use Rattle.js_subset.specs.declared.frames.Frame.{Frame}
@@ -39,53 +36,55 @@ use Rattle.js_subset.specs.declared.frames.Callee.TheVariants as calls
 use Rattle.js_subset.specs.declared.frames.Purpose.TheVariants as purpose
 use Rattle.js_subset.specs.declared.frames.To.{To}
 use Rattle.js_subset.specs.declared.frames.To.TheVariants as to
-use Rattle.js_subset.specs.Laid.{Laid, name_at, links_in, is_chain, is_name, is_choice, choices_in, last_in, steps_in, exprs_in}
-use Rattle.js_subset.specs.Standing.{Standing, with_frame, without_node, state_of}
-use Rattle.js_subset.specs.Meant.{Where, World, around_at, name_of, name_of_item, before_of, callee_of, signs_then, steps_then, behind_mark, then_of, told}
+use Rattle.js_subset.specs.Scopes.{scopes_of}
+use Rattle.js_subset.specs.Laid.{Laid, is_expr_node, name_of, name_at, links_in, is_chain, is_name, is_choice, choices_in, last_in, steps_in, exprs_in}
+use Rattle.js_subset.specs.Standing.{Standing, with_frame, without_node, state_of, kept}
+use Rattle.js_subset.specs.Meant.{Where, World, around_at, name_of_item, before_of, callee_of, signs_then, steps_then, behind_mark, then_of, told}
 use Rattle.js_subset.specs.Moves as m
 use Rattle.js_subset.specs.Moves.{Turns, threw, Pushes, arrive, ReadGives, FirstPart, ValueBefore, NamedMember, MemberOfName, MemberNext, ElementNext, called_at, method_called, NamedCallee, MemberCallee, ValueCallee, CalleeNext, StepNext, OtherChoice, ChooseOn, Resumes, FirstBy, RoundedFirst}
-use Rattle.js_subset.proofs.ToldLemmas.{on, turned, threw_on, pushed, goal_of, told_threw, told_arrive, arrived, told_next, read_on, plain, counted_none, counted_some}
-use Rattle.js_subset.proofs.GoesLemmas.{found_on, member_on, member_of_on, element_on, all_on, finished_on, chain_on, right_on}
+use Rattle.js_subset.proofs.ToldLemmas.{on, turned, threw_on, pushed, goal_of, told_threw, told_arrive, arrived, told_next, read_on, local_on, counted_none, counted_some}
+use Rattle.js_subset.proofs.GoesLemmas.{name_on, found_on, member_on, member_of_on, element_on, all_on, finished_on, chain_on, right_on}
 use Rattle.js_subset.proofs.BeginLemmas.{first_is, rest_is, exprs_are, links_are, Named, a_name_is, no_name_is, named_or_not}
+use Rattle.js_subset.proofs.NodeLemmas.{made_of, expr_item, is_step_node, step_item}
 
 -- ---- what stands before a step
 
-told_text : (w : World) (c : Laid) (a : Around) (m : Standing) (t : To) (v : Value) (b : 𝔹)
-    → told w c a m (if b then arrive t v else threw cause.Kind) ≡ on w m (if b then goal_of c a t m v (state_of m) else throws cause.Kind)
-told_text w c a m t v true = told_arrive w c a m t v
-told_text w c a m t v false = told_threw w c a m cause.Kind
+told_text : (w : World) (c : Laid) (x : Where) (m : Standing) (t : To) (v : Value) (b : 𝔹)
+    → told w c x m (if b then arrive t v else threw cause.Kind) ≡ on w m (if b then goal_of c x t m v (state_of c m) else throws cause.Kind)
+told_text w c x m t v true = told_arrive w c x m t v
+told_text w c x m t v false = told_threw w c x m cause.Kind
 
 pub value_on : (w : World) (c : Laid) (x : Where) (b : code_before.Before) (t : To) (old new : Standing) (y : Next)
-    → ValueBefore w c x.home b t old new y → told w c (around_at x) new y ≡ on w old (before_value (around_at x) (before_of c b) (state_of old) (goal_of c (around_at x) t old))
-value_on w c x (stands.Value v) t old new y h = arrived w c (around_at x) t v old new y h
-value_on w c x (stands.Name p) t old new y h = found_on w c x t (name_of c p) (w.names.resolve x.home (name_of c p)) old new y h
+    → ValueBefore w c x.home b t old new y → told w c x new y ≡ on w old (before_value (around_at x) (before_of c b) (state_of c old) (goal_of c x t old))
+value_on w c x (stands.Value v) t old new y h = arrived w c x t v old new y h
+value_on w c x (stands.Name p) t old new y h = name_on w c x t (name_of c p) old new y h
 value_on w c x (stands.OfValue v p) t old new y h = member_of_on w c x t v (name_of c p) old new y h
 value_on w c x (stands.OfNamed v o p q) t old new y h = member_on w c x t (w.names.member o (name_of c q)) old new y h
-value_on w c x (stands.OfScript u p) t old new y h = threw_on w c (around_at x) cause.Kind old new y h
+value_on w c x (stands.OfScript u p) t old new y h = threw_on w c x cause.Kind old new y h
 value_on w c x (stands.OfGlobal p q) t old new y h =
-    turned w c (around_at x) (if is_enumerated (name_of c p) (name_of c q) then arrive t (Text (name_of c q)) else threw cause.Kind) old new y h
-    ∙ told_text w c (around_at x) old t (Text (name_of c q)) (is_enumerated (name_of c p) (name_of c q))
-value_on w c x stands.Binding t old new y h = threw_on w c (around_at x) cause.Kind old new y h
+    turned w c x (if is_enumerated (name_of c p) (name_of c q) then arrive t (Text (name_of c q)) else threw cause.Kind) old new y h
+    ∙ told_text w c x old t (Text (name_of c q)) (is_enumerated (name_of c p) (name_of c q))
+value_on w c x stands.Binding t old new y h = threw_on w c x cause.Kind old new y h
 
 -- ---- members
 
 -- what goes on behind the step at a place, with what stands behind it
 abbrev pub on_from : Laid → Where → ℕ → Standing → Before → State → Ask
-on_from c x q old b s = steps_then c (around_at x) b q s (then_of c (around_at x) old.frames)
+on_from c x q old b s = steps_then c (around_at x) b q s (then_of c x old.frames)
 
 told_global : (w : World) (c : Laid) (x : Where) (p q : ℕ) (old : Standing) (b : 𝔹)
-    → told w c (around_at x) old (if b then next.Step (stands.OfValue Undefined q) q else next.Step (stands.OfGlobal p q) q)
-    ≡ on w old (if b then on_from c x q old (of_value Undefined (name_of c q)) (state_of old) else on_from c x q old (of_global (name_of c p) (name_of c q)) (state_of old))
+    → told w c x old (if b then next.Step (stands.OfValue Undefined q) q else next.Step (stands.OfGlobal p q) q)
+    ≡ on w old (if b then on_from c x q old (of_value Undefined (name_of c q)) (state_of c old) else on_from c x q old (of_global (name_of c p) (name_of c q)) (state_of c old))
 told_global w c x p q old true = refl
 told_global w c x p q old false = refl
 
 named_member_on : (w : World) (c : Laid) (x : Where) (p q : ℕ) (f : Found) (old new : Standing) (y : Next)
-    → NamedMember w c p q f old new y → told w c (around_at x) new y ≡ on w old (found_before f (name_of c p) (name_of c q) (state_of old) (on_from c x q old))
-named_member_on w c x p q (found.Object o) old new y h = turned w c (around_at x) (next.Step (stands.OfNamed (Object o) o p q) q) old new y h
-named_member_on w c x p q (found.Component o) old new y h = turned w c (around_at x) (next.Step (stands.OfNamed (Component o) o p q) q) old new y h
-named_member_on w c x p q (found.Script u) old new y h = turned w c (around_at x) (next.Step (stands.OfScript u q) q) old new y h
+    → NamedMember w c p q f old new y → told w c x new y ≡ on w old (found_before f (name_of c p) (name_of c q) (state_of c old) (on_from c x q old))
+named_member_on w c x p q (found.Object o) old new y h = turned w c x (next.Step (stands.OfNamed (Object o) o p q) q) old new y h
+named_member_on w c x p q (found.Component o) old new y h = turned w c x (next.Step (stands.OfNamed (Component o) o p q) q) old new y h
+named_member_on w c x p q (found.Script u) old new y h = turned w c x (next.Step (stands.OfScript u q) q) old new y h
 named_member_on w c x p q found.Global old new y h =
-    turned w c (around_at x) (if same_units (name_of c p) (codes "undefined") then next.Step (stands.OfValue Undefined q) q else next.Step (stands.OfGlobal p q) q) old new y h
+    turned w c x (if same_units (name_of c p) (codes "undefined") then next.Step (stands.OfValue Undefined q) q else next.Step (stands.OfGlobal p q) q) old new y h
     ∙ told_global w c x p q old (same_units (name_of c p) (codes "undefined"))
 named_member_on w c x p q (found.Cell k) old new y h = found_on w c x (to.Member q) (name_of c p) (found.Cell k) old new y h
 named_member_on w c x p q (found.Body e o) old new y h = found_on w c x (to.Member q) (name_of c p) (found.Body e o) old new y h
@@ -95,37 +94,39 @@ named_member_on w c x p q found.Nothing old new y h = found_on w c x (to.Member 
 
 member_of_name_on : (w : World) (c : Laid) (x : Where) (r q : ℕ) (b : 𝔹) (old new : Standing) (y : Next)
     → MemberOfName w c x.home r q b old new y
-    → told w c (around_at x) new y ≡ on w old (if b then on_from c x q old a_binding (state_of old) else name_before (around_at x) (name_of c r) (name_of c q) (state_of old) (on_from c x q old))
-member_of_name_on w c x r q true old new y h = turned w c (around_at x) (next.Step stands.Binding q) old new y h
-member_of_name_on w c x r q false old new y h = named_member_on w c x r q (w.names.resolve x.home (name_of c r)) old new y h
+    → told w c x new y ≡ on w old (if b then on_from c x q old a_binding (state_of c old) else name_before (around_at x) (name_of c r) (name_of c q) (state_of c old) (on_from c x q old))
+member_of_name_on w c x r q true old new y h = turned w c x (next.Step stands.Binding q) old new y h
+member_of_name_on w c x r q false old new y h =
+    local_on w c x (to.Member q) (name_of c r) old (finds x.home (name_of c r) (λ f. found_before f (name_of c r) (name_of c q) (state_of c old) (on_from c x q old)))
+    (NamedMember w c r q (w.names.resolve x.home (name_of c r)) old new y) new y (λ z. named_member_on w c x r q (w.names.resolve x.home (name_of c r)) old new y z) h
 
 -- the value of what stands before, at the same place: the step there sees a value
 abbrev member_step : Laid → Where → ℕ → Standing → Before → Ask
-member_step c x q old b = before_member (around_at x) b (name_of c q) (state_of old) (on_from c x q old)
+member_step c x q old b = before_member (around_at x) b (name_of c q) (state_of c old) (on_from c x q old)
 
 again_is : (c : Laid) (x : Where) (p q : ℕ) (i : Step) (old : Standing) (v : Value) → c.rest p ≡ of_step i ∷ c.rest q
-    → steps_then c (around_at x) (a_value v) p (state_of old) (then_of c (around_at x) old.frames) ≡ stepped (around_at x) i (a_value v) (state_of old) (on_from c x q old)
-again_is c x p q i old v e = ap (λ z. stepped_on (around_at x) (steps_in z) (a_value v) (state_of old) (λ d t. before_value (around_at x) d t (then_of c (around_at x) old.frames))) e
+    → steps_then c (around_at x) (a_value v) p (state_of c old) (then_of c x old.frames) ≡ stepped (around_at x) i (a_value v) (state_of c old) (on_from c x q old)
+again_is c x p q i old v e = ap (λ z. stepped_on (around_at x) (steps_in z) (a_value v) (state_of c old) (λ d t. before_value (around_at x) d t (then_of c x old.frames))) e
 
 -- the goal of a value that stays at a place is what the step behind it does with it
 stays : (c : Laid) (x : Where) (p q : ℕ) (i : Step) (old : Standing) → c.rest p ≡ of_step i ∷ c.rest q
-    → goal_of c (around_at x) (to.Step p) old ≡ (λ v s. stepped (around_at x) i (a_value v) s (on_from c x q old))
-stays c x p q i old e = ap (λ z v s. stepped_on (around_at x) (steps_in z) (a_value v) s (λ d t. before_value (around_at x) d t (then_of c (around_at x) old.frames))) e
+    → goal_of c x (to.Step p) old ≡ (λ v s. stepped (around_at x) i (a_value v) s (on_from c x q old))
+stays c x p q i old e = ap (λ z v s. stepped_on (around_at x) (steps_in z) (a_value v) s (λ d t. before_value (around_at x) d t (then_of c x old.frames))) e
 
 value_stays : (w : World) (c : Laid) (x : Where) (b : code_before.Before) (p q : ℕ) (i : Step) (old new : Standing) (y : Next) → c.rest p ≡ of_step i ∷ c.rest q
     → ValueBefore w c x.home b (to.Step p) old new y
-    → told w c (around_at x) new y ≡ on w old (before_value (around_at x) (before_of c b) (state_of old) (λ v s. stepped (around_at x) i (a_value v) s (on_from c x q old)))
+    → told w c x new y ≡ on w old (before_value (around_at x) (before_of c b) (state_of c old) (λ v s. stepped (around_at x) i (a_value v) s (on_from c x q old)))
 value_stays w c x b p q i old new y e h =
-    value_on w c x b (to.Step p) old new y h ∙ ap (λ k. on w old (before_value (around_at x) (before_of c b) (state_of old) k)) (stays c x p q i old e)
+    value_on w c x b (to.Step p) old new y h ∙ ap (λ k. on w old (before_value (around_at x) (before_of c b) (state_of c old) k)) (stays c x p q i old e)
 
 member_next_on : (w : World) (c : Laid) (x : Where) (b : code_before.Before) (p q : ℕ) (n : List ℕ) (r : _) (old new : Standing) (y : Next)
     → c.item q ≡ of_step (member n r) → c.rest p ≡ of_step (member n r) ∷ c.rest q → MemberNext w c x.home b p q old new y
-    → told w c (around_at x) new y ≡ on w old (stepped (around_at x) (member n r) (before_of c b) (state_of old) (on_from c x q old))
+    → told w c x new y ≡ on w old (stepped (around_at x) (member n r) (before_of c b) (state_of c old) (on_from c x q old))
 member_next_on w c x (stands.Value v) p q n r old new y ie re h =
-    turned w c (around_at x) (next.Step (stands.OfValue v q) q) old new y h ∙ ap (λ j. on w old (on_from c x q old (of_value v (name_at (node_of j))) (state_of old))) ie
+    turned w c x (next.Step (stands.OfValue v q) q) old new y h ∙ ap (λ j. on w old (on_from c x q old (of_value v (name_at (node_of j))) (state_of c old))) ie
 member_next_on w c x (stands.Name k) p q n r old new y ie re h =
     member_of_name_on w c x k q (is_qt_binding (name_of c k) (name_of c q)) old new y h
-    ∙ ap (λ j. on w old (before_member (around_at x) (a_name (name_of c k)) (name_at (node_of j)) (state_of old) (on_from c x q old))) ie
+    ∙ ap (λ j. on w old (before_member (around_at x) (a_name (name_of c k)) (name_at (node_of j)) (state_of c old) (on_from c x q old))) ie
 member_next_on w c x (stands.OfValue v k) p q n r old new y ie re h = value_stays w c x (stands.OfValue v k) p q (member n r) old new y re h
 member_next_on w c x (stands.OfNamed v o k l) p q n r old new y ie re h = value_stays w c x (stands.OfNamed v o k l) p q (member n r) old new y re h
 member_next_on w c x (stands.OfScript u k) p q n r old new y ie re h = value_stays w c x (stands.OfScript u k) p q (member n r) old new y re h
@@ -134,11 +135,11 @@ member_next_on w c x stands.Binding p q n r old new y ie re h = value_stays w c 
 
 element_next_on : (w : World) (c : Laid) (x : Where) (b : code_before.Before) (p q : ℕ) (r : _) (e : Expr) (old new : Standing) (y : Next)
     → c.item q ≡ of_step (element r e) → c.rest p ≡ of_step (element r e) ∷ c.rest q → ElementNext w c x.home b p q old new y
-    → told w c (around_at x) new y ≡ on w old (stepped (around_at x) (element r e) (before_of c b) (state_of old) (on_from c x q old))
+    → told w c x new y ≡ on w old (stepped (around_at x) (element r e) (before_of c b) (state_of c old) (on_from c x q old))
 element_next_on w c x (stands.Value v) p q r e old new y ie re h =
     let parts : of_expr e ∷ [] ≡ c.item h.0 ∷ c.rest h.0 = sym (ap (λ j. parts_of j) ie) ∙ h.1 in
-    pushed w c (around_at x) (frame.Index v q) h.0 old new y h.2
-    ∙ ap (λ j. on w old (eval (around_at x) (top_expr (j ∷ [])) (state_of old) (λ i t. element_of v i t (λ u s. on_from c x q old (a_value u) s)))) (first_is (of_expr e) (c.item h.0) [] (c.rest h.0) parts)
+    pushed w c x (frame.Index v q) h.0 old new y h.2
+    ∙ ap (λ j. on w old (eval (around_at x) (top_expr (j ∷ [])) (state_of c old) (λ i t. element_of v i t (λ u s. on_from c x q old (a_value u) s)))) (first_is (of_expr e) (c.item h.0) [] (c.rest h.0) parts)
 element_next_on w c x (stands.Name k) p q r e old new y ie re h = value_stays w c x (stands.Name k) p q (element r e) old new y re h
 element_next_on w c x (stands.OfValue v k) p q r e old new y ie re h = value_stays w c x (stands.OfValue v k) p q (element r e) old new y re h
 element_next_on w c x (stands.OfNamed v o k l) p q r e old new y ie re h = value_stays w c x (stands.OfNamed v o k l) p q (element r e) old new y re h
@@ -153,45 +154,45 @@ abbrev pub args_then : Laid → Where → ℕ → Standing → Callee → State 
 args_then c x q old f s = eval_first (around_at x) (rounding_of f) (exprs_in (behind_mark (parts_of (c.item q)))) s (λ vs t. called (around_at x) f vs t (λ r u. on_from c x q old (a_value r) u))
 
 called_on : (w : World) (c : Laid) (x : Where) (f : code_callee.Callee) (q : ℕ) (old new : Standing) (y : Next)
-    → called_at f q old new y → told w c (around_at x) new y ≡ on w old (args_then c x q old (callee_of c f) (state_of old))
-called_on w c x f q old new y h = turned w c (around_at x) (next.Args f q) old new y h
+    → called_at f q old new y → told w c x new y ≡ on w old (args_then c x q old (callee_of c f) (state_of c old))
+called_on w c x f q old new y h = turned w c x (next.Args f q) old new y h
 
 told_string : (w : World) (c : Laid) (x : Where) (q : ℕ) (old : Standing) (b : 𝔹)
-    → told w c (around_at x) old (next.Args (if b then calls.Text else calls.Nothing) q) ≡ on w old (if b then args_then c x q old of_text (state_of old) else args_then c x q old of_nothing (state_of old))
+    → told w c x old (next.Args (if b then calls.Text else calls.Nothing) q) ≡ on w old (if b then args_then c x q old of_text (state_of c old) else args_then c x q old of_nothing (state_of c old))
 told_string w c x q old true = refl
 told_string w c x q old false = refl
 
 method_on : (w : World) (c : Laid) (x : Where) (o : ObjNo) (k : Option CellNo) (p q : ℕ) (old new : Standing) (y : Next)
-    → Turns (method_called o k p q) old new y → told w c (around_at x) new y ≡ on w old (args_then c x q old (method_callee o k (name_of c p)) (state_of old))
-method_on w c x o None p q old new y h = turned w c (around_at x) (next.Args (calls.Doing o p) q) old new y h
-method_on w c x o (Some k) p q old new y h = turned w c (around_at x) (next.Args (calls.Reading o k p) q) old new y h
+    → Turns (method_called o k p q) old new y → told w c x new y ≡ on w old (args_then c x q old (method_callee o k (name_of c p)) (state_of c old))
+method_on w c x o None p q old new y h = turned w c x (next.Args (calls.Doing o p) q) old new y h
+method_on w c x o (Some k) p q old new y h = turned w c x (next.Args (calls.Reading o k p) q) old new y h
 
 named_callee_on : (w : World) (c : Laid) (x : Where) (p q : ℕ) (f : Found) (old new : Standing) (y : Next)
-    → NamedCallee w c p q f old new y → told w c (around_at x) new y ≡ on w old (found_callee (name_of c p) f (state_of old) (args_then c x q old))
+    → NamedCallee w c p q f old new y → told w c x new y ≡ on w old (found_callee (name_of c p) f (state_of c old) (args_then c x q old))
 named_callee_on w c x p q (found.Body e o) old new y h = called_on w c x (calls.Body e o) q old new y h
 named_callee_on w c x p q (found.Signal o i) old new y h = called_on w c x (calls.Signal o i) q old new y h
 named_callee_on w c x p q (found.Method o k) old new y h = method_on w c x o k p q old new y h
-named_callee_on w c x p q (found.Cell k) old new y h = read_on w c (around_at x) (to.Nothing q) k old new y h
-named_callee_on w c x p q found.Nothing old new y h = threw_on w c (around_at x) cause.Name old new y h
+named_callee_on w c x p q (found.Cell k) old new y h = read_on w c x (to.Nothing q) k old new y h
+named_callee_on w c x p q found.Nothing old new y h = threw_on w c x cause.Name old new y h
 named_callee_on w c x p q found.Global old new y h =
-    turned w c (around_at x) (next.Args (if same_units (name_of c p) (codes "String") then calls.Text else calls.Nothing) q) old new y h
+    turned w c x (next.Args (if same_units (name_of c p) (codes "String") then calls.Text else calls.Nothing) q) old new y h
     ∙ told_string w c x q old (same_units (name_of c p) (codes "String"))
 named_callee_on w c x p q (found.Object o) old new y h = called_on w c x calls.Nothing q old new y h
 named_callee_on w c x p q (found.Component o) old new y h = called_on w c x calls.Nothing q old new y h
 named_callee_on w c x p q (found.Script u) old new y h = called_on w c x calls.Nothing q old new y h
 
 told_may : (w : World) (c : Laid) (x : Where) (q : ℕ) (e : _) (o : ObjNo) (old : Standing) (b : 𝔹)
-    → told w c (around_at x) old (next.Args (if b then calls.Body e o else calls.Nothing) q) ≡ on w old (args_then c x q old (if b then of_body e o else of_nothing) (state_of old))
+    → told w c x old (next.Args (if b then calls.Body e o else calls.Nothing) q) ≡ on w old (args_then c x q old (if b then of_body e o else of_nothing) (state_of c old))
 told_may w c x q e o old true = refl
 told_may w c x q e o old false = refl
 
 member_callee_on : (w : World) (c : Laid) (x : Where) (b : 𝔹) (p q : ℕ) (f : Found) (old new : Standing) (y : Next)
-    → MemberCallee w b p q f old new y → told w c (around_at x) new y ≡ on w old (member_callee (λ go. go b) f (name_of c p) (state_of old) (args_then c x q old))
+    → MemberCallee w b p q f old new y → told w c x new y ≡ on w old (member_callee (λ go. go b) f (name_of c p) (state_of c old) (args_then c x q old))
 member_callee_on w c x b p q (found.Body e o) old new y h =
-    turned w c (around_at x) (next.Args (if b then calls.Body e o else calls.Nothing) q) old new y h ∙ told_may w c x q e o old b
+    turned w c x (next.Args (if b then calls.Body e o else calls.Nothing) q) old new y h ∙ told_may w c x q e o old b
 member_callee_on w c x b p q (found.Signal o i) old new y h = called_on w c x (calls.Signal o i) q old new y h
 member_callee_on w c x b p q (found.Method o k) old new y h = method_on w c x o k p q old new y h
-member_callee_on w c x b p q (found.Cell k) old new y h = read_on w c (around_at x) (to.Nothing q) k old new y h
+member_callee_on w c x b p q (found.Cell k) old new y h = read_on w c x (to.Nothing q) k old new y h
 member_callee_on w c x b p q found.Nothing old new y h = called_on w c x calls.Nothing q old new y h
 member_callee_on w c x b p q found.Global old new y h = called_on w c x calls.Nothing q old new y h
 member_callee_on w c x b p q (found.Object o) old new y h = called_on w c x calls.Nothing q old new y h
@@ -199,9 +200,9 @@ member_callee_on w c x b p q (found.Component o) old new y h = called_on w c x c
 member_callee_on w c x b p q (found.Script u) old new y h = called_on w c x calls.Nothing q old new y h
 
 value_callee_on : (w : World) (c : Laid) (x : Where) (v : Value) (p q : ℕ) (old new : Standing) (y : Next)
-    → ValueCallee w c v p q old new y → told w c (around_at x) new y ≡ on w old (value_callee (around_at x) v (name_of c p) (state_of old) (args_then c x q old))
-value_callee_on w c x Undefined p q old new y h = threw_on w c (around_at x) cause.Null old new y h
-value_callee_on w c x Null p q old new y h = threw_on w c (around_at x) cause.Null old new y h
+    → ValueCallee w c v p q old new y → told w c x new y ≡ on w old (value_callee (around_at x) v (name_of c p) (state_of c old) (args_then c x q old))
+value_callee_on w c x Undefined p q old new y h = threw_on w c x cause.Null old new y h
+value_callee_on w c x Null p q old new y h = threw_on w c x cause.Null old new y h
 value_callee_on w c x (Object o) p q old new y h = member_callee_on w c x false p q (w.names.member o (name_of c p)) old new y h
 value_callee_on w c x (Component o) p q old new y h = member_callee_on w c x false p q (w.names.member o (name_of c p)) old new y h
 value_callee_on w c x (Bool b) p q old new y h = called_on w c x (calls.Method (Bool b) p) q old new y h
@@ -223,7 +224,7 @@ by_id_is w h n m (found.Component o) old s k = refl
 by_id_is w h n m (found.Script u) old s k = refl
 
 script_on : (w : World) (c : Laid) (x : Where) (q : ℕ) (f : Found) (old new : Standing) (y : Next)
-    → called_at (m.script_callee f) q old new y → told w c (around_at x) new y ≡ on w old (script_callee f (state_of old) (args_then c x q old))
+    → called_at (m.script_callee f) q old new y → told w c x new y ≡ on w old (script_callee f (state_of c old) (args_then c x q old))
 script_on w c x q (found.Body e o) old new y h = called_on w c x (calls.Body e o) q old new y h
 script_on w c x q (found.Signal o i) old new y h = called_on w c x calls.Nothing q old new y h
 script_on w c x q (found.Method o z) old new y h = called_on w c x calls.Nothing q old new y h
@@ -246,127 +247,59 @@ global_is c false true p = refl
 global_is c false false p = refl
 
 callee_next_on : (w : World) (c : Laid) (x : Where) (b : code_before.Before) (q : ℕ) (old new : Standing) (y : Next)
-    → CalleeNext w c x.home b q old new y → told w c (around_at x) new y ≡ on w old (before_callee (around_at x) (before_of c b) (state_of old) (args_then c x q old))
+    → CalleeNext w c x.home b q old new y → told w c x new y ≡ on w old (before_callee (around_at x) (before_of c b) (state_of c old) (args_then c x q old))
 callee_next_on w c x (stands.Value v) q old new y h = called_on w c x calls.Nothing q old new y h
-callee_next_on w c x (stands.Name p) q old new y h = named_callee_on w c x p q (w.names.resolve x.home (name_of c p)) old new y h
+callee_next_on w c x (stands.Name p) q old new y h =
+    local_on w c x (to.Nothing q) (name_of c p) old (finds x.home (name_of c p) (λ f. found_callee (name_of c p) f (state_of c old) (args_then c x q old)))
+    (NamedCallee w c p q (w.names.resolve x.home (name_of c p)) old new y) new y (λ z. named_callee_on w c x p q (w.names.resolve x.home (name_of c p)) old new y z) h
 callee_next_on w c x (stands.OfValue v p) q old new y h = value_callee_on w c x v p q old new y h
 callee_next_on w c x (stands.OfNamed v o p k) q old new y h =
     member_callee_on w c x (w.names.is_id x.home (name_of c p)) k q (w.names.member o (name_of c k)) old new y h
-    ∙ by_id_is w x.home (name_of c p) (name_of c k) (w.names.member o (name_of c k)) old (state_of old) (args_then c x q old)
+    ∙ by_id_is w x.home (name_of c p) (name_of c k) (w.names.member o (name_of c k)) old (state_of c old) (args_then c x q old)
 callee_next_on w c x (stands.OfScript u p) q old new y h = script_on w c x q (w.names.resolve (script_home u) (name_of c p)) old new y h
 callee_next_on w c x (stands.OfGlobal p k) q old new y h =
     let b : 𝔹 = same_units (name_of c p) (codes "Math") in
     let d : 𝔹 = same_units (name_of c p) (codes "console") && same_units (name_of c k) (codes "log") in
-    called_on w c x (code_global b d k) q old new y h ∙ ap (λ f. on w old (args_then c x q old f (state_of old))) (global_is c b d k)
+    called_on w c x (code_global b d k) q old new y h ∙ ap (λ f. on w old (args_then c x q old f (state_of c old))) (global_is c b d k)
 callee_next_on w c x stands.Binding q old new y h = called_on w c x calls.Binding q old new y h
 
 -- ---- all steps
 
-no_link_steps : (w : World) (c : Laid) (x : Where) (b : code_before.Before) (p q : ℕ) (f : 𝔹) (o : _) (r : _) (ls : Links) (old new : Standing) (y : Next)
-    → StepNext w c x.home b p q (last_link f o r ls) old new y → ⊥
-no_link_steps w c x b p q f o r no_links old new y h = h
-no_link_steps w c x b p q f o r (a_link k l e ls) old new y h = no_link_steps w c x b p q false k l ls old new y h
+step_node : (w : World) (c : Laid) (x : Where) (b : code_before.Before) (p q : ℕ) (n : Node) (old new : Standing) (y : Next)
+    → StepNext w c x.home b p q n old new y → is_step_node n ≡ true
+step_node w c x b p q (node.Member m r) old new y h = refl
+step_node w c x b p q (node.Element r) old new y h = refl
+step_node w c x b p q (node.Call r) old new y h = refl
+step_node w c x b p q (node.Binding r) old new y h = refl
+step_node w c x b p q _ old new y h = absurd h
 
-no_sign_steps : (w : World) (c : Laid) (x : Where) (b : code_before.Before) (p q : ℕ) (f : 𝔹) (g : _) (r : _) (ss : Signs) (old new : Standing) (y : Next)
-    → StepNext w c x.home b p q (last_sign f g r ss) old new y → ⊥
-no_sign_steps w c x b p q f g r no_signs old new y h = h
-no_sign_steps w c x b p q f g r (a_sign k l ss) old new y h = no_sign_steps w c x b p q false k l ss old new y h
-
-no_expr_steps : (w : World) (c : Laid) (x : Where) (b : code_before.Before) (p q : ℕ) (e : Expr) (old new : Standing) (y : Next)
-    → StepNext w c x.home b p q (node_of (of_expr e)) old new y → ⊥
-no_expr_steps w c x b p q (signed g r ss e) old new y h = no_sign_steps w c x b p q true g r ss old new y h
-no_expr_steps w c x b p q (chain e o r d ls) old new y h = no_link_steps w c x b p q true o r ls old new y h
-no_expr_steps w c x b p q (name n r) old new y h = h
-no_expr_steps w c x b p q (number n r) old new y h = h
-no_expr_steps w c x b p q (text us r) old new y h = h
-no_expr_steps w c x b p q (literal l r) old new y h = h
-no_expr_steps w c x b p q (paren r e) old new y h = h
-no_expr_steps w c x b p q (list r es z) old new y h = h
-no_expr_steps w c x b p q (fields r fs z) old new y h = h
-no_expr_steps w c x b p q (steps e i is) old new y h = h
-no_expr_steps w c x b p q (bumped e i r) old new y h = h
-no_expr_steps w c x b p q (choose e d cs r) old new y h = h
-no_expr_steps w c x b p q (assign t g r ts v) old new y h = h
-
-no_stmt_steps : (w : World) (c : Laid) (x : Where) (b : code_before.Before) (p q : ℕ) (d : Stmt) (old new : Standing) (y : Next)
-    → StepNext w c x.home b p q (node_of (of_stmt d)) old new y → ⊥
-no_stmt_steps w c x b p q (empty r) old new y h = h
-no_stmt_steps w c x b p q (expr e z) old new y h = h
-no_stmt_steps w c x b p q (block r ss) old new y h = h
-no_stmt_steps w c x b p q (declare r k vs z) old new y h = h
-no_stmt_steps w c x b p q (when r e d) old new y h = h
-no_stmt_steps w c x b p q (either r e d k) old new y h = h
-no_stmt_steps w c x b p q (while r e d) old new y h = h
-no_stmt_steps w c x b p q (for r i e f d) old new y h = h
-no_stmt_steps w c x b p q (give r nothing z) old new y h = h
-no_stmt_steps w c x b p q (give r (just e) z) old new y h = h
-no_stmt_steps w c x b p q (stop r z) old new y h = h
-no_stmt_steps w c x b p q (again r z) old new y h = h
-
-step_on : (w : World) (c : Laid) (x : Where) (b : code_before.Before) (p q : ℕ) (i : Item) (old new : Standing) (y : Next)
-    → c.item q ≡ i → c.rest p ≡ i ∷ c.rest q → StepNext w c x.home b p q (node_of i) old new y
-    → told w c (around_at x) new y ≡ on w old (stepped_on (around_at x) (steps_in (i ∷ c.rest q)) (before_of c b) (state_of old) (λ d t. before_value (around_at x) d t (then_of c (around_at x) old.frames)))
-step_on w c x b p q (of_step (member n r)) old new y ie re h = member_next_on w c x b p q n r old new y ie re h
-step_on w c x b p q (of_step (element r e)) old new y ie re h = element_next_on w c x b p q r e old new y ie re h
-step_on w c x b p q (of_step (call r es)) old new y ie re h =
+step_by : (w : World) (c : Laid) (x : Where) (b : code_before.Before) (p q : ℕ) (i : Step) (old new : Standing) (y : Next)
+    → c.item q ≡ of_step i → c.rest p ≡ of_step i ∷ c.rest q → StepNext w c x.home b p q (node_of (of_step i)) old new y
+    → told w c x new y ≡ on w old (stepped_on (around_at x) (steps_in (of_step i ∷ c.rest q)) (before_of c b) (state_of c old) (λ d t. before_value (around_at x) d t (then_of c x old.frames)))
+step_by w c x b p q (member n r) old new y ie re h = member_next_on w c x b p q n r old new y ie re h
+step_by w c x b p q (element r e) old new y ie re h = element_next_on w c x b p q r e old new y ie re h
+step_by w c x b p q (call r es) old new y ie re h =
     callee_next_on w c x b q old new y h
-    ∙ ap (λ j. on w old (before_callee (around_at x) (before_of c b) (state_of old) (λ f s. eval_first (around_at x) (rounding_of f) (exprs_in (behind_mark (parts_of j))) s (λ vs t. called (around_at x) f vs t (λ u z. on_from c x q old (a_value u) z))))) ie
-    ∙ ap (λ z. on w old (before_callee (around_at x) (before_of c b) (state_of old) (λ f s. eval_first (around_at x) (rounding_of f) z s (λ vs t. called (around_at x) f vs t (λ u z. on_from c x q old (a_value u) z))))) (exprs_are es)
-step_on w c x b p q (of_step (binding r ss)) old new y ie re h = threw_on w c (around_at x) cause.Call old new y h
-step_on w c x b p q (of_expr e) old new y ie re h = absurd (no_expr_steps w c x b p q e old new y h)
-step_on w c x b p q (of_stmt d) old new y ie re h = absurd (no_stmt_steps w c x b p q d old new y h)
-step_on w c x b p q mark old new y ie re h = absurd h
-step_on w c x b p q (of_key k n r) old new y ie re h = absurd h
-step_on w c x b p q (of_sign f g r) old new y ie re h = absurd h
-step_on w c x b p q (of_link f o r d) old new y ie re h = absurd h
-step_on w c x b p q (of_choice f d e) old new y ie re h = absurd h
-step_on w c x b p q (of_target f t g r) old new y ie re h = absurd h
-step_on w c x b p q (of_var n r) old new y ie re h = absurd h
-step_on w c x b p q (of_first no_first) old new y ie re h = absurd h
-step_on w c x b p q (of_first (first_expr e)) old new y ie re h = absurd h
-step_on w c x b p q (of_first (first_declare r k vs)) old new y ie re h = absurd h
-step_on w c x b p q (of_maybe nothing) old new y ie re h = absurd h
-step_on w c x b p q (of_maybe (just e)) old new y ie re h = absurd h
-step_on w c x b p q (of_body ss) old new y ie re h = absurd h
-step_on w c x b p q (parts.of_name n1 r1) old new y ie re h = absurd h
-step_on w c x b p q (parts.of_dot n1) old new y ie re h = absurd h
-step_on w c x b p q (parts.of_file n1 r1) old new y ie re h = absurd h
-step_on w c x b p q (parts.of_qualifier None) old new y ie re h = absurd h
-step_on w c x b p q (parts.of_qualifier (Some q1)) old new y ie re h = absurd h
-step_on w c x b p q (parts.of_import (docs.import_module n1 r1 ns1 v1 q1 c1)) old new y ie re h = absurd h
-step_on w c x b p q (parts.of_import (docs.import_text n1 r1 q1 c1)) old new y ie re h = absurd h
-step_on w c x b p q (parts.of_kind None) old new y ie re h = absurd h
-step_on w c x b p q (parts.of_kind (Some docs.kind_var)) old new y ie re h = absurd h
-step_on w c x b p q (parts.of_kind (Some (docs.kind_name n1 r1 ns1))) old new y ie re h = absurd h
-step_on w c x b p q (parts.of_kind (Some (docs.kind_list n1 r1))) old new y ie re h = absurd h
-step_on w c x b p q (parts.of_par_name n1) old new y ie re h = absurd h
-step_on w c x b p q (parts.of_par n1 q1) old new y ie re h = absurd h
-step_on w c x b p q (parts.of_signal_par q1 n1) old new y ie re h = absurd h
-step_on w c x b p q (parts.of_function (docs.function r1 n1 r2 ps1 q1 ss1)) old new y ie re h = absurd h
-step_on w c x b p q (parts.of_member x1 true) old new y ie re h = absurd h
-step_on w c x b p q (parts.of_member (docs.id r1 n1 r2 c1) false) old new y ie re h = absurd h
-step_on w c x b p q (parts.of_member (docs.property r1 d1 q1 n1 r2 v1) false) old new y ie re h = absurd h
-step_on w c x b p q (parts.of_member (docs.bare r1 d1 q1 n1 r2 c1) false) old new y ie re h = absurd h
-step_on w c x b p q (parts.of_member (docs.alias r1 d1 n1 r2 n2 r3 ns1 c1) false) old new y ie re h = absurd h
-step_on w c x b p q (parts.of_member (docs.signal r1 n1 r2 None c1) false) old new y ie re h = absurd h
-step_on w c x b p q (parts.of_member (docs.signal r1 n1 r2 (Some ps1) c1) false) old new y ie re h = absurd h
-step_on w c x b p q (parts.of_member (docs.method f1) false) old new y ie re h = absurd h
-step_on w c x b p q (parts.of_member (docs.given n1 r1 ns1 v1) false) old new y ie re h = absurd h
-step_on w c x b p q (parts.of_member (docs.group n1 r1 ns1 ms1) false) old new y ie re h = absurd h
-step_on w c x b p q (parts.of_member (docs.child o1) false) old new y ie re h = absurd h
-step_on w c x b p q (parts.of_object o1) old new y ie re h = absurd h
-step_on w c x b p q (parts.of_objects r1 os1) old new y ie re h = absurd h
-step_on w c x b p q (parts.of_document d1) old new y ie re h = absurd h
-step_on w c x b p q (parts.of_script (docs.script b1 fs1)) old new y ie re h = absurd h
+    ∙ ap (λ j. on w old (before_callee (around_at x) (before_of c b) (state_of c old) (λ f s. eval_first (around_at x) (rounding_of f) (exprs_in (behind_mark (parts_of j))) s (λ vs t. called (around_at x) f vs t (λ u z. on_from c x q old (a_value u) z))))) ie
+    ∙ ap (λ z. on w old (before_callee (around_at x) (before_of c b) (state_of c old) (λ f s. eval_first (around_at x) (rounding_of f) z s (λ vs t. called (around_at x) f vs t (λ u z. on_from c x q old (a_value u) z))))) (exprs_are es)
+step_by w c x b p q (binding r ss) old new y ie re h = threw_on w c x cause.Call old new y h
+
+step_on : (w : World) (c : Laid) (x : Where) (b : code_before.Before) (p q : ℕ) (old new : Standing) (y : Next)
+    → c.rest p ≡ c.item q ∷ c.rest q → StepNext w c x.home b p q (node_of (c.item q)) old new y
+    → told w c x new y ≡ on w old (stepped_on (around_at x) (steps_in (c.item q ∷ c.rest q)) (before_of c b) (state_of c old) (λ d t. before_value (around_at x) d t (then_of c x old.frames)))
+step_on w c x b p q old new y re h =
+    let r : (i : Step) × (c.item q ≡ of_step i) = step_item (node_of (c.item q)) (c.item q) refl (step_node w c x b p q (node_of (c.item q)) old new y h) in
+    step_by w c x b p q r.0 old new y r.1 (re ∙ ap (λ j. j ∷ c.rest q) r.1) (subst (λ (j : Item). StepNext w c x.home b p q (node_of j) old new y) r.1 h)
+    ∙ ap (λ j. on w old (stepped_on (around_at x) (steps_in (j ∷ c.rest q)) (before_of c b) (state_of c old) (λ d t. before_value (around_at x) d t (then_of c x old.frames)))) (sym r.1)
 
 pub steps_on : (w : World) (c : Laid) (x : Where) (b : code_before.Before) (p : ℕ) (old new : Standing) (y : Next)
-    → m.Steps w c x.home b p old new y → told w c (around_at x) new y ≡ told w c (around_at x) old (next.Step b p)
+    → m.Steps w c x.home b p old new y → told w c x new y ≡ told w c x old (next.Step b p)
 steps_on w c x b p old new y h =
     let a : Around = around_at x in
-    let go : List Item → Ask = λ is. stepped_on a (steps_in is) (before_of c b) (state_of old) (λ d t. before_value a d t (then_of c a old.frames)) in
+    let go : List Item → Ask = λ is. stepped_on a (steps_in is) (before_of c b) (state_of c old) (λ d t. before_value a d t (then_of c x old.frames)) in
     elim h [
       | inl l ↦ value_on w c x b to.Back old new y l.1 ∙ ap (λ z. on w old (go z)) (sym l.0)
-      | inr r ↦ step_on w c x b p r.0 (c.item r.0) old new y refl r.1 r.2 ∙ ap (λ z. on w old (go z)) (sym r.1)
+      | inr r ↦ step_on w c x b p r.0 old new y r.1 r.2 ∙ ap (λ z. on w old (go z)) (sym r.1)
     ]
 
 -- ---- choices
@@ -377,9 +310,6 @@ top_alone _ is = refl
 
 abbrev chosen_in : Around → List Item → State → Then → Ask
 chosen_in a is s k = chosen a (choices_in is) s (λ u. eval a (last_in is) u k) k
-
-made_of : (n : Node) (i : Item) → n ≡ node_of i → apply n (reverse (parts_of i) ++ []) ≡ i ∷ []
-made_of n i h = ap (λ z. apply z (reverse (parts_of i) ++ [])) h ∙ level_is_made i []
 
 choice_item : (n : Node) (i : Item) → n ≡ node_of i → is_choice n ≡ true → (f : 𝔹) × (d : Expr) × (e : Expr) × (i ≡ of_choice f d e)
 choice_item (node.Choice f) i h b =
@@ -396,58 +326,59 @@ last_begins a s k _ is h = refl
 
 choice_again : (w : World) (c : Laid) (x : Where) (r : ℕ) (f : 𝔹) (d e : Expr) (old new : Standing) (y : Next)
     → c.item r ≡ of_choice f d e → OtherChoice c true r old new y
-    → told w c (around_at x) new y ≡ on w old (chosen_in (around_at x) (of_choice f d e ∷ c.rest r) (state_of old) (then_of c (around_at x) old.frames))
+    → told w c x new y ≡ on w old (chosen_in (around_at x) (of_choice f d e ∷ c.rest r) (state_of c old) (then_of c x old.frames))
 choice_again w c x r f d e old new y ie h =
     let a : Around = around_at x in
-    let k : Then = then_of c a old.frames in
+    let k : Then = then_of c x old.frames in
     let t : ℕ = h.0 in
     let parts : of_expr d ∷ of_expr e ∷ [] ≡ c.item t ∷ c.rest t = sym (ap (λ j. parts_of j) ie) ∙ h.1 in
-    let go : Expr → Expr → Ask = λ d e. eval a d (state_of old) (λ v u. if counts v then eval a e u k else chosen_in a (c.rest r) u k) in
-    pushed w c a (frame.Choose r t) t old new y h.2
+    let go : Expr → Expr → Ask = λ d e. eval a d (state_of c old) (λ v u. if counts v then eval a e u k else chosen_in a (c.rest r) u k) in
+    pushed w c x (frame.Choose r t) t old new y h.2
     ∙ ap (λ j. on w old (go (top_expr (j ∷ [])) (top_expr (c.rest t)))) (first_is (of_expr d) (c.item t) (of_expr e ∷ []) (c.rest t) parts)
     ∙ ap (λ z. on w old (go d (top_expr z))) (rest_is (of_expr d) (c.item t) (of_expr e ∷ []) (c.rest t) parts)
 
 other_on : (w : World) (c : Laid) (x : Where) (r : ℕ) (b : 𝔹) (old new : Standing) (y : Next)
     → is_choice (node_of (c.item r)) ≡ b → OtherChoice c b r old new y
-    → told w c (around_at x) new y ≡ on w old (chosen_in (around_at x) (c.item r ∷ c.rest r) (state_of old) (then_of c (around_at x) old.frames))
+    → told w c x new y ≡ on w old (chosen_in (around_at x) (c.item r ∷ c.rest r) (state_of c old) (then_of c x old.frames))
 other_on w c x r true old new y e h =
     let i : (f : 𝔹) × (d : Expr) × (m : Expr) × (c.item r ≡ of_choice f d m) = choice_item (node_of (c.item r)) (c.item r) refl e in
     choice_again w c x r i.0 i.1 i.2 old new y i.3 h
-    ∙ ap (λ z. on w old (chosen_in (around_at x) (z ∷ c.rest r) (state_of old) (then_of c (around_at x) old.frames))) (sym i.3)
+    ∙ ap (λ z. on w old (chosen_in (around_at x) (z ∷ c.rest r) (state_of c old) (then_of c x old.frames))) (sym i.3)
 other_on w c x r false old new y e h =
-    turned w c (around_at x) (next.Begin r) old new y h
-    ∙ ap (λ z. on w old z) (last_begins (around_at x) (state_of old) (then_of c (around_at x) old.frames) (c.item r) (c.rest r) e)
+    turned w c x (next.Begin r) old new y h
+    ∙ ap (λ z. on w old z) (last_begins (around_at x) (state_of c old) (then_of c x old.frames) (c.item r) (c.rest r) e)
 
 abbrev choose_then : Laid → Where → ℕ → ℕ → Standing → 𝔹 → Ask
-choose_then c x q t old b = cond b (eval (around_at x) (top_expr (c.rest t)) (state_of old) (then_of c (around_at x) old.frames)) (chosen_in (around_at x) (c.rest q) (state_of old) (then_of c (around_at x) old.frames))
+choose_then c x q t old b = cond b (eval (around_at x) (top_expr (c.rest t)) (state_of c old) (then_of c x old.frames)) (chosen_in (around_at x) (c.rest q) (state_of c old) (then_of c x old.frames))
 
 choose_on : (w : World) (c : Laid) (x : Where) (q t : ℕ) (b : 𝔹) (old new : Standing) (y : Next)
-    → ChooseOn c q t b old new y → told w c (around_at x) new y ≡ on w old (choose_then c x q t old b)
+    → ChooseOn c q t b old new y → told w c x new y ≡ on w old (choose_then c x q t old b)
 choose_on w c x q t true old new y h =
-    turned w c (around_at x) (next.Begin h.0) old new y h.2
-    ∙ ap (λ e. on w old (eval (around_at x) e (state_of old) (then_of c (around_at x) old.frames))) (top_alone (c.item h.0) (c.rest h.0))
-    ∙ ap (λ z. on w old (eval (around_at x) (top_expr z) (state_of old) (then_of c (around_at x) old.frames))) (sym h.1)
+    turned w c x (next.Begin h.0) old new y h.2
+    ∙ ap (λ e. on w old (eval (around_at x) e (state_of c old) (then_of c x old.frames))) (top_alone (c.item h.0) (c.rest h.0))
+    ∙ ap (λ z. on w old (eval (around_at x) (top_expr z) (state_of c old) (then_of c x old.frames))) (sym h.1)
 choose_on w c x q t false old new y h =
     other_on w c x h.0 (is_choice (node_of (c.item h.0))) old new y refl h.2
-    ∙ ap (λ z. on w old (chosen_in (around_at x) z (state_of old) (then_of c (around_at x) old.frames))) (sym h.1)
+    ∙ ap (λ z. on w old (chosen_in (around_at x) z (state_of c old) (then_of c x old.frames))) (sym h.1)
 
 -- ---- all that goes on behind a value
 
 pub resumed_on : (w : World) (c : Laid) (x : Where) (f : Frame) (v : Value) (old new : Standing) (y : Next)
-    → Resumes w c f v old new y → told w c (around_at x) new y ≡ told w c (around_at x) (with_frame f old) (next.Back v)
+    → Resumes w c f v old new y → told w c x new y ≡ told w c x (with_frame f old) (next.Back v)
 resumed_on w c x (frame.Chain how at p) v old new y h = chain_on w c x how at p v old new y h
 resumed_on w c x (frame.Right how o l at p) v old new y h = right_on w c x how o l at p v old new y h
 resumed_on w c x (frame.Choose q t) v old new y h = choose_on w c x q t (counts v) old new y h
-resumed_on w c x (frame.Sign g) v old new y h = turned w c (around_at x) (m.next_of (operate_prefix g v)) old new y h ∙ told_next w c (around_at x) old (operate_prefix g v)
-resumed_on w c x (frame.First p) v old new y h = turned w c (around_at x) (next.Step (stands.Value v) p) old new y h
+resumed_on w c x (frame.Sign g) v old new y h = turned w c x (m.next_of (operate_prefix g v)) old new y h ∙ told_next w c x old (operate_prefix g v)
+resumed_on w c x (frame.First p) v old new y h = turned w c x (next.Step (stands.Value v) p) old new y h
 resumed_on w c x (frame.Index l p) v old new y h = element_on w c x (to.Step p) l v old new y h
 resumed_on w c x (frame.All what vs p) v old new y h = all_on w c x what (vs ++ v ∷ []) p old new y h
+resumed_on w c x _ v old new y h = absurd h
 
 -- ---- prefixes
 
 typed_on : (w : World) (c : Laid) (x : Where) (n : List ℕ) (f : Found) (old new : Standing) (y : Next)
-    → m.typed_found to.Back n f w old new y → told w c (around_at x) new y ≡ on w old (found_or_undefined n f (state_of old) (then_of c (around_at x) old.frames))
-typed_on w c x n found.Nothing old new y h = arrived w c (around_at x) to.Back Undefined old new y h
+    → m.typed_found to.Back n f w old new y → told w c x new y ≡ on w old (found_or_undefined n f (state_of c old) (then_of c x old.frames))
+typed_on w c x n found.Nothing old new y h = arrived w c x to.Back Undefined old new y h
 typed_on w c x n (found.Cell k) old new y h = found_on w c x to.Back n (found.Cell k) old new y h
 typed_on w c x n (found.Body e o) old new y h = found_on w c x to.Back n (found.Body e o) old new y h
 typed_on w c x n (found.Signal o i) old new y h = found_on w c x to.Back n (found.Signal o i) old new y h
@@ -458,17 +389,24 @@ typed_on w c x n (found.Component o) old new y h = found_on w c x to.Back n (fou
 typed_on w c x n (found.Script u) old new y h = found_on w c x to.Back n (found.Script u) old new y h
 
 abbrev signed_then : Where → Laid → Prefix → Standing → Then
-signed_then x c g old v t = given (operate_prefix g v) t (then_of c (around_at x) old.frames)
+signed_then x c g old v t = given (operate_prefix g v) t (then_of c x old.frames)
 
 -- a name behind `typeof`
+name_typed_on : (w : World) (c : Laid) (x : Where) (n : List ℕ) (old new : Standing) (y : Next)
+    → m.NameTyped w c x.home n old new y
+    → told w c x new y ≡ on w old (local_or (local n (scopes_of c old.locals)) (finds x.home n (λ f. found_or_undefined n f (state_of c old) (then_of c x old.frames))) (state_of c old) (then_of c x old.frames))
+name_typed_on w c x n old new y h =
+    local_on w c x to.Back n old (finds x.home n (λ f. found_or_undefined n f (state_of c old) (then_of c x old.frames))) (m.typed_found to.Back n (w.names.resolve x.home n) w old new y) new y
+    (λ r. typed_on w c x n (w.names.resolve x.home n) old new y r) h
+
 typed_name_on : (w : World) (c : Laid) (x : Where) (n : List ℕ) (old new : Standing) (y : Next)
-    → m.TypedName w x.home n old new y
-    → told w c (around_at x) new y ≡ on w old (typed (Some n) (around_at x) (state_of old) (λ t go. throws cause.Kind) (signed_then x c prefix.TypeOf old))
+    → m.TypedName w c x.home n old new y
+    → told w c x new y ≡ on w old (typed (Some n) (around_at x) (state_of c old) (λ t go. throws cause.Kind) (signed_then x c prefix.TypeOf old))
 typed_name_on w c x n old new y h =
-    let go : State → Ask = λ s. finds x.home n (λ f. found_or_undefined n f s (signed_then x c prefix.TypeOf old)) in
+    let go : State → Ask = λ s. local_or (local n s.scopes) (finds x.home n (λ f. found_or_undefined n f s (signed_then x c prefix.TypeOf old))) s (signed_then x c prefix.TypeOf old) in
     elim h [
-      | inl l ↦ threw_on w c (around_at x) cause.Nodes old new y l.1 ∙ ap (λ z. on w old z) (sym (counted_none old.left go l.0))
-      | inr r ↦ typed_on w c x n (w.names.resolve x.home n) (with_frame (frame.Sign prefix.TypeOf) (without_node old)) new y r.1 ∙ ap (λ z. on w old z) (sym (counted_some old.left go r.0))
+      | inl l ↦ threw_on w c x cause.Nodes old new y l.1 ∙ ap (λ z. on w old z) (sym (counted_none (scopes_of c old.locals) old.left go l.0))
+      | inr r ↦ name_typed_on w c x n (with_frame (frame.Sign prefix.TypeOf) (without_node old)) new y r.1 ∙ ap (λ z. on w old z) (sym (counted_some (scopes_of c old.locals) old.left go r.0))
     ]
 
 abbrev is_sign : Node → 𝔹
@@ -502,404 +440,115 @@ no_name_expr : (e : Expr) → Named e → name_in e ≡ None → is_name (node_o
 no_name_expr e (a_name_is n p) h = absurd (cc)
 no_name_expr e (no_name_is f n) h = f
 
-no_name_item : (i : Item) → name_of_item i ≡ None → is_name (node_of i) ≡ false
-no_name_item (of_expr e) h = no_name_expr e (named_or_not e) h
-no_name_item (mark) h = refl
-no_name_item (of_step (member n r)) h = refl
-no_name_item (of_step (element r e)) h = refl
-no_name_item (of_step (call r es)) h = refl
-no_name_item (of_step (binding r ss)) h = refl
-no_name_item (of_key k n r) h = refl
-no_name_item (of_sign f g r) h = refl
-no_name_item (of_link f o r d) h = refl
-no_name_item (of_choice f d e) h = refl
-no_name_item (of_target f t g r) h = refl
-no_name_item (of_var n r) h = refl
-no_name_item (of_first no_first) h = refl
-no_name_item (of_first (first_expr e)) h = refl
-no_name_item (of_first (first_declare r k vs)) h = refl
-no_name_item (of_maybe nothing) h = refl
-no_name_item (of_maybe (just e)) h = refl
-no_name_item (of_body ss) h = refl
-no_name_item (of_stmt (empty r)) h = refl
-no_name_item (of_stmt (expr e z)) h = refl
-no_name_item (of_stmt (block r ss)) h = refl
-no_name_item (of_stmt (declare r k vs z)) h = refl
-no_name_item (of_stmt (when r e d)) h = refl
-no_name_item (of_stmt (either r e d k)) h = refl
-no_name_item (of_stmt (while r e d)) h = refl
-no_name_item (of_stmt (for r i e f d)) h = refl
-no_name_item (of_stmt (give r nothing z)) h = refl
-no_name_item (of_stmt (give r (just e) z)) h = refl
-no_name_item (of_stmt (stop r z)) h = refl
-no_name_item (of_stmt (again r z)) h = refl
-no_name_item (parts.of_name n1 r1) h = refl
-no_name_item (parts.of_dot n1) h = refl
-no_name_item (parts.of_file n1 r1) h = refl
-no_name_item (parts.of_qualifier None) h = refl
-no_name_item (parts.of_qualifier (Some q1)) h = refl
-no_name_item (parts.of_import (docs.import_module n1 r1 ns1 v1 q1 c1)) h = refl
-no_name_item (parts.of_import (docs.import_text n1 r1 q1 c1)) h = refl
-no_name_item (parts.of_kind None) h = refl
-no_name_item (parts.of_kind (Some docs.kind_var)) h = refl
-no_name_item (parts.of_kind (Some (docs.kind_name n1 r1 ns1))) h = refl
-no_name_item (parts.of_kind (Some (docs.kind_list n1 r1))) h = refl
-no_name_item (parts.of_par_name n1) h = refl
-no_name_item (parts.of_par n1 q1) h = refl
-no_name_item (parts.of_signal_par q1 n1) h = refl
-no_name_item (parts.of_function (docs.function r1 n1 r2 ps1 q1 ss1)) h = refl
-no_name_item (parts.of_member x1 true) h = refl
-no_name_item (parts.of_member (docs.id r1 n1 r2 c1) false) h = refl
-no_name_item (parts.of_member (docs.property r1 d1 q1 n1 r2 v1) false) h = refl
-no_name_item (parts.of_member (docs.bare r1 d1 q1 n1 r2 c1) false) h = refl
-no_name_item (parts.of_member (docs.alias r1 d1 n1 r2 n2 r3 ns1 c1) false) h = refl
-no_name_item (parts.of_member (docs.signal r1 n1 r2 None c1) false) h = refl
-no_name_item (parts.of_member (docs.signal r1 n1 r2 (Some ps1) c1) false) h = refl
-no_name_item (parts.of_member (docs.method f1) false) h = refl
-no_name_item (parts.of_member (docs.given n1 r1 ns1 v1) false) h = refl
-no_name_item (parts.of_member (docs.group n1 r1 ns1 ms1) false) h = refl
-no_name_item (parts.of_member (docs.child o1) false) h = refl
-no_name_item (parts.of_object o1) h = refl
-no_name_item (parts.of_objects r1 os1) h = refl
-no_name_item (parts.of_document d1) h = refl
-no_name_item (parts.of_script (docs.script b1 fs1)) h = refl
+name_is_expr : (n : Node) → is_name n ≡ true → is_expr_node n ≡ true
+name_is_expr (node.Name n p) h = refl
+name_is_expr _ h = absurd (cc)
 
-operand_plain : (w : World) (x : Home) (g : Prefix) (z : Node) (at : ℕ) (old new : Standing) (y : Next)
-    → is_name z ≡ false → m.OperandSigned w x g z at old new y → Pushes (frame.Sign g) at old new y
-operand_plain w x prefix.TypeOf (node.Name n p) at old new y e h = absurd (cc)
-operand_plain w x prefix.TypeOf _ at old new y e h = h
-operand_plain w x _ z at old new y e h = h
+no_name_by : (i : Item) (b : 𝔹) → is_name (node_of i) ≡ b → name_of_item i ≡ None → is_name (node_of i) ≡ false
+no_name_by i false e h = e
+no_name_by i true e h =
+    let r : (d : Expr) × (i ≡ of_expr d) = expr_item (node_of i) i refl (name_is_expr (node_of i) e) in
+    ap (λ j. is_name (node_of j)) r.1 ∙ no_name_expr r.0 (named_or_not r.0) (sym (ap (λ j. name_of_item j) r.1) ∙ h)
+
+no_name_item : (i : Item) → name_of_item i ≡ None → is_name (node_of i) ≡ false
+no_name_item i h = no_name_by i (is_name (node_of i)) refl h
+
+operand_plain : (w : World) (c : Laid) (x : Home) (g : Prefix) (z : Node) (at : ℕ) (old new : Standing) (y : Next)
+    → is_name z ≡ false → m.OperandSigned w c x g z at old new y → Pushes (frame.Sign g) at old new y
+operand_plain w c x prefix.TypeOf (node.Name n p) at old new y e h = absurd (cc)
+operand_plain w c x prefix.TypeOf _ at old new y e h = h
+operand_plain w c x _ z at old new y e h = h
 
 typed_none : (g : Prefix) → typed_by g None ≡ None
 typed_none prefix.TypeOf = refl
 typed_none _ = refl
 
 signs_plain : (w : World) (c : Laid) (x : Home) (g : Prefix) (z : Node) (at : ℕ) (old new : Standing) (y : Next)
-    → is_sign z ≡ false → m.Signs w c x g z at old new y → m.OperandSigned w x g z at old new y
+    → is_sign z ≡ false → m.Signs w c x g z at old new y → m.OperandSigned w c x g z at old new y
 signs_plain w c x g (node.Sign f k p) at old new y e h = absurd (cc)
 signs_plain w c x g _ at old new y e h = h
 
 abbrev operand_then : Laid → Where → Prefix → Item → Standing → Ask
-operand_then c x g i old = typed (typed_by g (name_of_item i)) (around_at x) (state_of old) (λ t go. eval (around_at x) (top_expr (i ∷ [])) t go) (signed_then x c g old)
+operand_then c x g i old = typed (typed_by g (name_of_item i)) (around_at x) (state_of c old) (λ t go. eval (around_at x) (top_expr (i ∷ [])) t go) (signed_then x c g old)
 
 -- an operand that is no name
 plain_operand : (w : World) (c : Laid) (x : Where) (g : Prefix) (i : Item) (at : ℕ) (old new : Standing) (y : Next)
-    → c.item at ≡ i → name_of_item i ≡ None → m.OperandSigned w x.home g (node_of i) at old new y → told w c (around_at x) new y ≡ on w old (operand_then c x g i old)
+    → c.item at ≡ i → name_of_item i ≡ None → m.OperandSigned w c x.home g (node_of i) at old new y → told w c x new y ≡ on w old (operand_then c x g i old)
 plain_operand w c x g i at old new y ie ne h =
     let a : Around = around_at x in
-    let by : Option (List ℕ) → Ask = λ o. typed o a (state_of old) (λ t go. eval a (top_expr (i ∷ [])) t go) (signed_then x c g old) in
-    pushed w c a (frame.Sign g) at old new y (operand_plain w x.home g (node_of i) at old new y (no_name_item i ne) h)
-    ∙ ap (λ j. on w old (eval a (top_expr (j ∷ [])) (state_of old) (signed_then x c g old))) ie
+    let by : Option (List ℕ) → Ask = λ o. typed o a (state_of c old) (λ t go. eval a (top_expr (i ∷ [])) t go) (signed_then x c g old) in
+    pushed w c x (frame.Sign g) at old new y (operand_plain w c x.home g (node_of i) at old new y (no_name_item i ne) h)
+    ∙ ap (λ j. on w old (eval a (top_expr (j ∷ [])) (state_of c old) (signed_then x c g old))) ie
     ∙ ap (λ o. on w old (by o)) (sym (ap (λ n. typed_by g n) ne ∙ typed_none g))
 
 -- an operand that is one
 name_operand : (w : World) (c : Laid) (x : Where) (g : Prefix) (n : List ℕ) (p : Place) (at : ℕ) (old new : Standing) (y : Next)
-    → c.item at ≡ of_expr (name n p) → m.OperandSigned w x.home g (node.Name n p) at old new y → told w c (around_at x) new y ≡ on w old (operand_then c x g (of_expr (name n p)) old)
+    → c.item at ≡ of_expr (name n p) → m.OperandSigned w c x.home g (node.Name n p) at old new y → told w c x new y ≡ on w old (operand_then c x g (of_expr (name n p)) old)
 name_operand w c x prefix.TypeOf n p at old new y ie h = typed_name_on w c x n old new y h
-name_operand w c x prefix.Not n p at old new y ie h = pushed w c (around_at x) (frame.Sign prefix.Not) at old new y h ∙ ap (λ j. on w old (eval (around_at x) (top_expr (j ∷ [])) (state_of old) (signed_then x c prefix.Not old))) ie
-name_operand w c x prefix.Minus n p at old new y ie h = pushed w c (around_at x) (frame.Sign prefix.Minus) at old new y h ∙ ap (λ j. on w old (eval (around_at x) (top_expr (j ∷ [])) (state_of old) (signed_then x c prefix.Minus old))) ie
-name_operand w c x prefix.Plus n p at old new y ie h = pushed w c (around_at x) (frame.Sign prefix.Plus) at old new y h ∙ ap (λ j. on w old (eval (around_at x) (top_expr (j ∷ [])) (state_of old) (signed_then x c prefix.Plus old))) ie
-name_operand w c x prefix.BitNot n p at old new y ie h = pushed w c (around_at x) (frame.Sign prefix.BitNot) at old new y h ∙ ap (λ j. on w old (eval (around_at x) (top_expr (j ∷ [])) (state_of old) (signed_then x c prefix.BitNot old))) ie
-name_operand w c x prefix.Increment n p at old new y ie h = pushed w c (around_at x) (frame.Sign prefix.Increment) at old new y h ∙ ap (λ j. on w old (eval (around_at x) (top_expr (j ∷ [])) (state_of old) (signed_then x c prefix.Increment old))) ie
-name_operand w c x prefix.Decrement n p at old new y ie h = pushed w c (around_at x) (frame.Sign prefix.Decrement) at old new y h ∙ ap (λ j. on w old (eval (around_at x) (top_expr (j ∷ [])) (state_of old) (signed_then x c prefix.Decrement old))) ie
+name_operand w c x prefix.Not n p at old new y ie h = pushed w c x (frame.Sign prefix.Not) at old new y h ∙ ap (λ j. on w old (eval (around_at x) (top_expr (j ∷ [])) (state_of c old) (signed_then x c prefix.Not old))) ie
+name_operand w c x prefix.Minus n p at old new y ie h = pushed w c x (frame.Sign prefix.Minus) at old new y h ∙ ap (λ j. on w old (eval (around_at x) (top_expr (j ∷ [])) (state_of c old) (signed_then x c prefix.Minus old))) ie
+name_operand w c x prefix.Plus n p at old new y ie h = pushed w c x (frame.Sign prefix.Plus) at old new y h ∙ ap (λ j. on w old (eval (around_at x) (top_expr (j ∷ [])) (state_of c old) (signed_then x c prefix.Plus old))) ie
+name_operand w c x prefix.BitNot n p at old new y ie h = pushed w c x (frame.Sign prefix.BitNot) at old new y h ∙ ap (λ j. on w old (eval (around_at x) (top_expr (j ∷ [])) (state_of c old) (signed_then x c prefix.BitNot old))) ie
+name_operand w c x prefix.Increment n p at old new y ie h = pushed w c x (frame.Sign prefix.Increment) at old new y h ∙ ap (λ j. on w old (eval (around_at x) (top_expr (j ∷ [])) (state_of c old) (signed_then x c prefix.Increment old))) ie
+name_operand w c x prefix.Decrement n p at old new y ie h = pushed w c x (frame.Sign prefix.Decrement) at old new y h ∙ ap (λ j. on w old (eval (around_at x) (top_expr (j ∷ [])) (state_of c old) (signed_then x c prefix.Decrement old))) ie
 
 abbrev signs_at : Laid → Where → Prefix → Item → List Item → Standing → Ask
-signs_at c x g i is old = signs_then (around_at x) g (i ∷ is) (state_of old) (then_of c (around_at x) old.frames)
+signs_at c x g i is old = signs_then (around_at x) g (i ∷ is) (state_of c old) (then_of c x old.frames)
 
 expr_signs : (w : World) (c : Laid) (x : Where) (g : Prefix) (e : Expr) (at : ℕ) (old new : Standing) (y : Next)
-    → Named e → c.item at ≡ of_expr e → m.Signs w c x.home g (node_of (of_expr e)) at old new y → told w c (around_at x) new y ≡ on w old (operand_then c x g (of_expr e) old)
+    → Named e → c.item at ≡ of_expr e → m.Signs w c x.home g (node_of (of_expr e)) at old new y → told w c x new y ≡ on w old (operand_then c x g (of_expr e) old)
 expr_signs w c x g e at old new y (a_name_is n p) ie h = name_operand w c x g n p at old new y ie h
 expr_signs w c x g e at old new y (no_name_is f n) ie h = plain_operand w c x g (of_expr e) at old new y ie n (signs_plain w c x.home g (node_of (of_expr e)) at old new y (expr_no_sign e) h)
 
-item_signs : (w : World) (c : Laid) (x : Where) (g : Prefix) (i : Item) (at : ℕ) (old new : Standing) (y : Next)
-    → c.item at ≡ i → m.Signs w c x.home g (node_of i) at old new y → told w c (around_at x) new y ≡ on w old (signs_at c x g i (c.rest at) old)
-item_signs w c x g (of_expr e) at old new y ie h = expr_signs w c x g e at old new y (named_or_not e) ie h
-item_signs w c x g (of_sign f k r) at old new y ie h =
-    ap (λ m. told w c (around_at x) m y) h.2 ∙ ap (λ z. told w c (around_at x) (with_frame (frame.Sign k) old) z) h.3
-    ∙ ap (λ is. on w old (signs_then (around_at x) g is (state_of old) (λ v t. given (operate_prefix k v) t (then_of c (around_at x) old.frames)))) (sym h.1)
-item_signs w c x g (mark) at old new y ie h = plain_operand w c x g (mark) at old new y ie refl (signs_plain w c x.home g (node_of (mark)) at old new y refl h)
-item_signs w c x g (of_step (member n r)) at old new y ie h = plain_operand w c x g (of_step (member n r)) at old new y ie refl (signs_plain w c x.home g (node_of (of_step (member n r))) at old new y refl h)
-item_signs w c x g (of_step (element r e)) at old new y ie h = plain_operand w c x g (of_step (element r e)) at old new y ie refl (signs_plain w c x.home g (node_of (of_step (element r e))) at old new y refl h)
-item_signs w c x g (of_step (call r es)) at old new y ie h = plain_operand w c x g (of_step (call r es)) at old new y ie refl (signs_plain w c x.home g (node_of (of_step (call r es))) at old new y refl h)
-item_signs w c x g (of_step (binding r ss)) at old new y ie h = plain_operand w c x g (of_step (binding r ss)) at old new y ie refl (signs_plain w c x.home g (node_of (of_step (binding r ss))) at old new y refl h)
-item_signs w c x g (of_key k n r) at old new y ie h = plain_operand w c x g (of_key k n r) at old new y ie refl (signs_plain w c x.home g (node_of (of_key k n r)) at old new y refl h)
-item_signs w c x g (of_link f o r d) at old new y ie h = plain_operand w c x g (of_link f o r d) at old new y ie refl (signs_plain w c x.home g (node_of (of_link f o r d)) at old new y refl h)
-item_signs w c x g (of_choice f d e) at old new y ie h = plain_operand w c x g (of_choice f d e) at old new y ie refl (signs_plain w c x.home g (node_of (of_choice f d e)) at old new y refl h)
-item_signs w c x g (of_target f t gg r) at old new y ie h = plain_operand w c x g (of_target f t gg r) at old new y ie refl (signs_plain w c x.home g (node_of (of_target f t gg r)) at old new y refl h)
-item_signs w c x g (of_var n r) at old new y ie h = plain_operand w c x g (of_var n r) at old new y ie refl (signs_plain w c x.home g (node_of (of_var n r)) at old new y refl h)
-item_signs w c x g (of_first no_first) at old new y ie h = plain_operand w c x g (of_first no_first) at old new y ie refl (signs_plain w c x.home g (node_of (of_first no_first)) at old new y refl h)
-item_signs w c x g (of_first (first_expr e)) at old new y ie h = plain_operand w c x g (of_first (first_expr e)) at old new y ie refl (signs_plain w c x.home g (node_of (of_first (first_expr e))) at old new y refl h)
-item_signs w c x g (of_first (first_declare r k vs)) at old new y ie h = plain_operand w c x g (of_first (first_declare r k vs)) at old new y ie refl (signs_plain w c x.home g (node_of (of_first (first_declare r k vs))) at old new y refl h)
-item_signs w c x g (of_maybe nothing) at old new y ie h = plain_operand w c x g (of_maybe nothing) at old new y ie refl (signs_plain w c x.home g (node_of (of_maybe nothing)) at old new y refl h)
-item_signs w c x g (of_maybe (just e)) at old new y ie h = plain_operand w c x g (of_maybe (just e)) at old new y ie refl (signs_plain w c x.home g (node_of (of_maybe (just e))) at old new y refl h)
-item_signs w c x g (of_body ss) at old new y ie h = plain_operand w c x g (of_body ss) at old new y ie refl (signs_plain w c x.home g (node_of (of_body ss)) at old new y refl h)
-item_signs w c x g (of_stmt (empty r)) at old new y ie h = plain_operand w c x g (of_stmt (empty r)) at old new y ie refl (signs_plain w c x.home g (node_of (of_stmt (empty r))) at old new y refl h)
-item_signs w c x g (of_stmt (expr e z)) at old new y ie h = plain_operand w c x g (of_stmt (expr e z)) at old new y ie refl (signs_plain w c x.home g (node_of (of_stmt (expr e z))) at old new y refl h)
-item_signs w c x g (of_stmt (block r ss)) at old new y ie h = plain_operand w c x g (of_stmt (block r ss)) at old new y ie refl (signs_plain w c x.home g (node_of (of_stmt (block r ss))) at old new y refl h)
-item_signs w c x g (of_stmt (declare r k vs z)) at old new y ie h = plain_operand w c x g (of_stmt (declare r k vs z)) at old new y ie refl (signs_plain w c x.home g (node_of (of_stmt (declare r k vs z))) at old new y refl h)
-item_signs w c x g (of_stmt (when r e d)) at old new y ie h = plain_operand w c x g (of_stmt (when r e d)) at old new y ie refl (signs_plain w c x.home g (node_of (of_stmt (when r e d))) at old new y refl h)
-item_signs w c x g (of_stmt (either r e d k)) at old new y ie h = plain_operand w c x g (of_stmt (either r e d k)) at old new y ie refl (signs_plain w c x.home g (node_of (of_stmt (either r e d k))) at old new y refl h)
-item_signs w c x g (of_stmt (while r e d)) at old new y ie h = plain_operand w c x g (of_stmt (while r e d)) at old new y ie refl (signs_plain w c x.home g (node_of (of_stmt (while r e d))) at old new y refl h)
-item_signs w c x g (of_stmt (for r i e f d)) at old new y ie h = plain_operand w c x g (of_stmt (for r i e f d)) at old new y ie refl (signs_plain w c x.home g (node_of (of_stmt (for r i e f d))) at old new y refl h)
-item_signs w c x g (of_stmt (give r nothing z)) at old new y ie h = plain_operand w c x g (of_stmt (give r nothing z)) at old new y ie refl (signs_plain w c x.home g (node_of (of_stmt (give r nothing z))) at old new y refl h)
-item_signs w c x g (of_stmt (give r (just e) z)) at old new y ie h = plain_operand w c x g (of_stmt (give r (just e) z)) at old new y ie refl (signs_plain w c x.home g (node_of (of_stmt (give r (just e) z))) at old new y refl h)
-item_signs w c x g (of_stmt (stop r z)) at old new y ie h = plain_operand w c x g (of_stmt (stop r z)) at old new y ie refl (signs_plain w c x.home g (node_of (of_stmt (stop r z))) at old new y refl h)
-item_signs w c x g (of_stmt (again r z)) at old new y ie h = plain_operand w c x g (of_stmt (again r z)) at old new y ie refl (signs_plain w c x.home g (node_of (of_stmt (again r z))) at old new y refl h)
-item_signs w c x g (parts.of_name n1 r1) at old new y ie h = plain_operand w c x g (parts.of_name n1 r1) at old new y ie refl (signs_plain w c x.home g (node_of (parts.of_name n1 r1)) at old new y refl h)
-item_signs w c x g (parts.of_dot n1) at old new y ie h = plain_operand w c x g (parts.of_dot n1) at old new y ie refl (signs_plain w c x.home g (node_of (parts.of_dot n1)) at old new y refl h)
-item_signs w c x g (parts.of_file n1 r1) at old new y ie h = plain_operand w c x g (parts.of_file n1 r1) at old new y ie refl (signs_plain w c x.home g (node_of (parts.of_file n1 r1)) at old new y refl h)
-item_signs w c x g (parts.of_qualifier None) at old new y ie h = plain_operand w c x g (parts.of_qualifier None) at old new y ie refl (signs_plain w c x.home g (node_of (parts.of_qualifier None)) at old new y refl h)
-item_signs w c x g (parts.of_qualifier (Some q1)) at old new y ie h = plain_operand w c x g (parts.of_qualifier (Some q1)) at old new y ie refl (signs_plain w c x.home g (node_of (parts.of_qualifier (Some q1))) at old new y refl h)
-item_signs w c x g (parts.of_import (docs.import_module n1 r1 ns1 v1 q1 c1)) at old new y ie h = plain_operand w c x g (parts.of_import (docs.import_module n1 r1 ns1 v1 q1 c1)) at old new y ie refl (signs_plain w c x.home g (node_of (parts.of_import (docs.import_module n1 r1 ns1 v1 q1 c1))) at old new y refl h)
-item_signs w c x g (parts.of_import (docs.import_text n1 r1 q1 c1)) at old new y ie h = plain_operand w c x g (parts.of_import (docs.import_text n1 r1 q1 c1)) at old new y ie refl (signs_plain w c x.home g (node_of (parts.of_import (docs.import_text n1 r1 q1 c1))) at old new y refl h)
-item_signs w c x g (parts.of_kind None) at old new y ie h = plain_operand w c x g (parts.of_kind None) at old new y ie refl (signs_plain w c x.home g (node_of (parts.of_kind None)) at old new y refl h)
-item_signs w c x g (parts.of_kind (Some docs.kind_var)) at old new y ie h = plain_operand w c x g (parts.of_kind (Some docs.kind_var)) at old new y ie refl (signs_plain w c x.home g (node_of (parts.of_kind (Some docs.kind_var))) at old new y refl h)
-item_signs w c x g (parts.of_kind (Some (docs.kind_name n1 r1 ns1))) at old new y ie h = plain_operand w c x g (parts.of_kind (Some (docs.kind_name n1 r1 ns1))) at old new y ie refl (signs_plain w c x.home g (node_of (parts.of_kind (Some (docs.kind_name n1 r1 ns1)))) at old new y refl h)
-item_signs w c x g (parts.of_kind (Some (docs.kind_list n1 r1))) at old new y ie h = plain_operand w c x g (parts.of_kind (Some (docs.kind_list n1 r1))) at old new y ie refl (signs_plain w c x.home g (node_of (parts.of_kind (Some (docs.kind_list n1 r1)))) at old new y refl h)
-item_signs w c x g (parts.of_par_name n1) at old new y ie h = plain_operand w c x g (parts.of_par_name n1) at old new y ie refl (signs_plain w c x.home g (node_of (parts.of_par_name n1)) at old new y refl h)
-item_signs w c x g (parts.of_par n1 q1) at old new y ie h = plain_operand w c x g (parts.of_par n1 q1) at old new y ie refl (signs_plain w c x.home g (node_of (parts.of_par n1 q1)) at old new y refl h)
-item_signs w c x g (parts.of_signal_par q1 n1) at old new y ie h = plain_operand w c x g (parts.of_signal_par q1 n1) at old new y ie refl (signs_plain w c x.home g (node_of (parts.of_signal_par q1 n1)) at old new y refl h)
-item_signs w c x g (parts.of_function (docs.function r1 n1 r2 ps1 q1 ss1)) at old new y ie h = plain_operand w c x g (parts.of_function (docs.function r1 n1 r2 ps1 q1 ss1)) at old new y ie refl (signs_plain w c x.home g (node_of (parts.of_function (docs.function r1 n1 r2 ps1 q1 ss1))) at old new y refl h)
-item_signs w c x g (parts.of_member x1 true) at old new y ie h = plain_operand w c x g (parts.of_member x1 true) at old new y ie refl (signs_plain w c x.home g (node_of (parts.of_member x1 true)) at old new y refl h)
-item_signs w c x g (parts.of_member (docs.id r1 n1 r2 c1) false) at old new y ie h = plain_operand w c x g (parts.of_member (docs.id r1 n1 r2 c1) false) at old new y ie refl (signs_plain w c x.home g (node_of (parts.of_member (docs.id r1 n1 r2 c1) false)) at old new y refl h)
-item_signs w c x g (parts.of_member (docs.property r1 d1 q1 n1 r2 v1) false) at old new y ie h = plain_operand w c x g (parts.of_member (docs.property r1 d1 q1 n1 r2 v1) false) at old new y ie refl (signs_plain w c x.home g (node_of (parts.of_member (docs.property r1 d1 q1 n1 r2 v1) false)) at old new y refl h)
-item_signs w c x g (parts.of_member (docs.bare r1 d1 q1 n1 r2 c1) false) at old new y ie h = plain_operand w c x g (parts.of_member (docs.bare r1 d1 q1 n1 r2 c1) false) at old new y ie refl (signs_plain w c x.home g (node_of (parts.of_member (docs.bare r1 d1 q1 n1 r2 c1) false)) at old new y refl h)
-item_signs w c x g (parts.of_member (docs.alias r1 d1 n1 r2 n2 r3 ns1 c1) false) at old new y ie h = plain_operand w c x g (parts.of_member (docs.alias r1 d1 n1 r2 n2 r3 ns1 c1) false) at old new y ie refl (signs_plain w c x.home g (node_of (parts.of_member (docs.alias r1 d1 n1 r2 n2 r3 ns1 c1) false)) at old new y refl h)
-item_signs w c x g (parts.of_member (docs.signal r1 n1 r2 None c1) false) at old new y ie h = plain_operand w c x g (parts.of_member (docs.signal r1 n1 r2 None c1) false) at old new y ie refl (signs_plain w c x.home g (node_of (parts.of_member (docs.signal r1 n1 r2 None c1) false)) at old new y refl h)
-item_signs w c x g (parts.of_member (docs.signal r1 n1 r2 (Some ps1) c1) false) at old new y ie h = plain_operand w c x g (parts.of_member (docs.signal r1 n1 r2 (Some ps1) c1) false) at old new y ie refl (signs_plain w c x.home g (node_of (parts.of_member (docs.signal r1 n1 r2 (Some ps1) c1) false)) at old new y refl h)
-item_signs w c x g (parts.of_member (docs.method f1) false) at old new y ie h = plain_operand w c x g (parts.of_member (docs.method f1) false) at old new y ie refl (signs_plain w c x.home g (node_of (parts.of_member (docs.method f1) false)) at old new y refl h)
-item_signs w c x g (parts.of_member (docs.given n1 r1 ns1 v1) false) at old new y ie h = plain_operand w c x g (parts.of_member (docs.given n1 r1 ns1 v1) false) at old new y ie refl (signs_plain w c x.home g (node_of (parts.of_member (docs.given n1 r1 ns1 v1) false)) at old new y refl h)
-item_signs w c x g (parts.of_member (docs.group n1 r1 ns1 ms1) false) at old new y ie h = plain_operand w c x g (parts.of_member (docs.group n1 r1 ns1 ms1) false) at old new y ie refl (signs_plain w c x.home g (node_of (parts.of_member (docs.group n1 r1 ns1 ms1) false)) at old new y refl h)
-item_signs w c x g (parts.of_member (docs.child o1) false) at old new y ie h = plain_operand w c x g (parts.of_member (docs.child o1) false) at old new y ie refl (signs_plain w c x.home g (node_of (parts.of_member (docs.child o1) false)) at old new y refl h)
-item_signs w c x g (parts.of_object o1) at old new y ie h = plain_operand w c x g (parts.of_object o1) at old new y ie refl (signs_plain w c x.home g (node_of (parts.of_object o1)) at old new y refl h)
-item_signs w c x g (parts.of_objects r1 os1) at old new y ie h = plain_operand w c x g (parts.of_objects r1 os1) at old new y ie refl (signs_plain w c x.home g (node_of (parts.of_objects r1 os1)) at old new y refl h)
-item_signs w c x g (parts.of_document d1) at old new y ie h = plain_operand w c x g (parts.of_document d1) at old new y ie refl (signs_plain w c x.home g (node_of (parts.of_document d1)) at old new y refl h)
-item_signs w c x g (parts.of_script (docs.script b1 fs1)) at old new y ie h = plain_operand w c x g (parts.of_script (docs.script b1 fs1)) at old new y ie refl (signs_plain w c x.home g (node_of (parts.of_script (docs.script b1 fs1))) at old new y refl h)
+-- a prefix before another one
+sign_signs : (w : World) (c : Laid) (x : Where) (g k : Prefix) (f : 𝔹) (r : Place) (at : ℕ) (old new : Standing) (y : Next)
+    → m.Signs w c x.home g (node.Sign f k r) at old new y → told w c x new y ≡ on w old (signs_at c x g (of_sign f k r) (c.rest at) old)
+sign_signs w c x g k f r at old new y h =
+    ap (λ m. told w c x m y) h.2 ∙ ap (λ z. told w c x (with_frame (frame.Sign k) old) z) h.3
+    ∙ ap (λ is. on w old (signs_then (around_at x) g is (state_of c old) (λ v t. given (operate_prefix k v) t (then_of c x old.frames)))) (sym h.1)
+
+abbrev starts_sign : Parts → 𝔹
+starts_sign (of_sign f g p ∷ s) = true
+starts_sign _ = false
+
+sign_heads : (n : Node) (s : Parts) → is_sign n ≡ true → starts_sign (apply n s) ≡ true
+sign_heads (node.Sign f g p) s h = refl
+sign_heads _ s h = absurd (cc)
+
+sign_alone : (i : Item) → starts_sign (i ∷ []) ≡ true → (f : 𝔹) × (g : Prefix) × (p : Place) × (i ≡ of_sign f g p)
+sign_alone (of_sign f g p) h = (f, g, p, refl)
+sign_alone _ h = absurd (cc)
+
+sign_item : (i : Item) → is_sign (node_of i) ≡ true → (f : 𝔹) × (g : Prefix) × (p : Place) × (i ≡ of_sign f g p)
+sign_item i b = sign_alone i (ap (λ z. starts_sign z) (sym (made_of (node_of i) i refl)) ∙ sign_heads (node_of i) (reverse (parts_of i) ++ []) b)
+
+named_item : (i : Item) (n : List ℕ) → name_of_item i ≡ Some n → (e : Expr) × (i ≡ of_expr e)
+named_item (of_expr e) n h = (e, refl)
+named_item _ n h = absurd (cc)
+
+no_sign_then : (a : Around) (g : Prefix) (i : Item) (is : List Item) (s : State) (k : Then) → is_sign (node_of i) ≡ false
+    → typed (typed_by g (name_of_item i)) a s (λ t go. eval a (top_expr (i ∷ [])) t go) (λ v t. given (operate_prefix g v) t k) ≡ signs_then a g (i ∷ is) s k
+no_sign_then a g (of_sign f h q) is s k e = absurd (cc)
+no_sign_then a g _ is s k e = refl
+
+operand_by : (w : World) (c : Laid) (x : Where) (g : Prefix) (i : Item) (o : Option (List ℕ)) (at : ℕ) (old new : Standing) (y : Next)
+    → name_of_item i ≡ o → c.item at ≡ i → is_sign (node_of i) ≡ false → m.Signs w c x.home g (node_of i) at old new y → told w c x new y ≡ on w old (operand_then c x g i old)
+operand_by w c x g i None at old new y ne ie e h = plain_operand w c x g i at old new y ie ne (signs_plain w c x.home g (node_of i) at old new y e h)
+operand_by w c x g i (Some n) at old new y ne ie e h =
+    let r : (d : Expr) × (i ≡ of_expr d) = named_item i n ne in
+    expr_signs w c x g r.0 at old new y (named_or_not r.0) (ie ∙ r.1) (subst (λ (j : Item). m.Signs w c x.home g (node_of j) at old new y) r.1 h)
+    ∙ ap (λ j. on w old (operand_then c x g j old)) (sym r.1)
+
+signs_by : (w : World) (c : Laid) (x : Where) (g : Prefix) (i : Item) (b : 𝔹) (at : ℕ) (old new : Standing) (y : Next)
+    → is_sign (node_of i) ≡ b → c.item at ≡ i → m.Signs w c x.home g (node_of i) at old new y → told w c x new y ≡ on w old (signs_at c x g i (c.rest at) old)
+signs_by w c x g i true at old new y e ie h =
+    let r : (f : 𝔹) × (k : Prefix) × (p : Place) × (i ≡ of_sign f k p) = sign_item i e in
+    sign_signs w c x g r.1 r.0 r.2 at old new y (subst (λ (j : Item). m.Signs w c x.home g (node_of j) at old new y) r.3 h)
+    ∙ ap (λ j. on w old (signs_at c x g j (c.rest at) old)) (sym r.3)
+signs_by w c x g i false at old new y e ie h =
+    operand_by w c x g i (name_of_item i) at old new y refl ie e h
+    ∙ ap (λ z. on w old z) (no_sign_then (around_at x) g i (c.rest at) (state_of c old) (then_of c x old.frames) e)
 
 pub signs_on : (w : World) (c : Laid) (x : Where) (g : Prefix) (at : ℕ) (old new : Standing) (y : Next)
-    → m.Signs w c x.home g (node_of (c.item at)) at old new y → told w c (around_at x) new y ≡ told w c (around_at x) old (next.Signs g at)
-signs_on w c x g at old new y h = item_signs w c x g (c.item at) at old new y refl h
-
--- ---- arguments
-
-abbrev is_chain_expr : Expr → 𝔹
-is_chain_expr (chain e o p d ls) = true
-is_chain_expr _ = false
-
-no_chain_sign : (f : 𝔹) (g : _) (p : _) (ss : Signs) → is_chain (last_sign f g p ss) ≡ true → ⊥
-no_chain_sign f g p no_signs h = cc
-no_chain_sign f g p (a_sign q r ss) h = no_chain_sign false q r ss h
-
-pub data IsChain : Item → Type 0 where
-  a_chain : (e : Expr) (o : Operator) (p : Place) (d : Expr) (ls : Links) → IsChain (of_expr (chain e o p d ls))
-
-chain_item : (i : Item) → is_chain (node_of i) ≡ true → IsChain i
-chain_item (of_expr (chain e o p d ls)) h = a_chain e o p d ls
-chain_item (of_expr (signed g r ss e)) h = absurd (no_chain_sign true g r ss h)
-chain_item (of_expr (name n r)) h = absurd (cc)
-chain_item (of_expr (number n r)) h = absurd (cc)
-chain_item (of_expr (text us r)) h = absurd (cc)
-chain_item (of_expr (literal l r)) h = absurd (cc)
-chain_item (of_expr (paren r e)) h = absurd (cc)
-chain_item (of_expr (list r es z)) h = absurd (cc)
-chain_item (of_expr (fields r fs z)) h = absurd (cc)
-chain_item (of_expr (steps e i is)) h = absurd (cc)
-chain_item (of_expr (bumped e i r)) h = absurd (cc)
-chain_item (of_expr (choose e d cs r)) h = absurd (cc)
-chain_item (of_expr (assign t g r ts v)) h = absurd (cc)
-chain_item (mark) h = absurd (cc)
-chain_item (of_step (member n r)) h = absurd (cc)
-chain_item (of_step (element r e)) h = absurd (cc)
-chain_item (of_step (call r es)) h = absurd (cc)
-chain_item (of_step (binding r ss)) h = absurd (cc)
-chain_item (of_key k n r) h = absurd (cc)
-chain_item (of_sign f g r) h = absurd (cc)
-chain_item (of_link f o r d) h = absurd (cc)
-chain_item (of_choice f d e) h = absurd (cc)
-chain_item (of_target f t g r) h = absurd (cc)
-chain_item (of_var n r) h = absurd (cc)
-chain_item (of_first no_first) h = absurd (cc)
-chain_item (of_first (first_expr e)) h = absurd (cc)
-chain_item (of_first (first_declare r k vs)) h = absurd (cc)
-chain_item (of_maybe nothing) h = absurd (cc)
-chain_item (of_maybe (just e)) h = absurd (cc)
-chain_item (of_body ss) h = absurd (cc)
-chain_item (of_stmt (empty r)) h = absurd (cc)
-chain_item (of_stmt (expr e z)) h = absurd (cc)
-chain_item (of_stmt (block r ss)) h = absurd (cc)
-chain_item (of_stmt (declare r k vs z)) h = absurd (cc)
-chain_item (of_stmt (when r e d)) h = absurd (cc)
-chain_item (of_stmt (either r e d k)) h = absurd (cc)
-chain_item (of_stmt (while r e d)) h = absurd (cc)
-chain_item (of_stmt (for r i e f d)) h = absurd (cc)
-chain_item (of_stmt (give r nothing z)) h = absurd (cc)
-chain_item (of_stmt (give r (just e) z)) h = absurd (cc)
-chain_item (of_stmt (stop r z)) h = absurd (cc)
-chain_item (of_stmt (again r z)) h = absurd (cc)
-chain_item (parts.of_name n1 r1) h = absurd (cc)
-chain_item (parts.of_dot n1) h = absurd (cc)
-chain_item (parts.of_file n1 r1) h = absurd (cc)
-chain_item (parts.of_qualifier None) h = absurd (cc)
-chain_item (parts.of_qualifier (Some q1)) h = absurd (cc)
-chain_item (parts.of_import (docs.import_module n1 r1 ns1 v1 q1 c1)) h = absurd (cc)
-chain_item (parts.of_import (docs.import_text n1 r1 q1 c1)) h = absurd (cc)
-chain_item (parts.of_kind None) h = absurd (cc)
-chain_item (parts.of_kind (Some docs.kind_var)) h = absurd (cc)
-chain_item (parts.of_kind (Some (docs.kind_name n1 r1 ns1))) h = absurd (cc)
-chain_item (parts.of_kind (Some (docs.kind_list n1 r1))) h = absurd (cc)
-chain_item (parts.of_par_name n1) h = absurd (cc)
-chain_item (parts.of_par n1 q1) h = absurd (cc)
-chain_item (parts.of_signal_par q1 n1) h = absurd (cc)
-chain_item (parts.of_function (docs.function r1 n1 r2 ps1 q1 ss1)) h = absurd (cc)
-chain_item (parts.of_member x1 true) h = absurd (cc)
-chain_item (parts.of_member (docs.id r1 n1 r2 c1) false) h = absurd (cc)
-chain_item (parts.of_member (docs.property r1 d1 q1 n1 r2 v1) false) h = absurd (cc)
-chain_item (parts.of_member (docs.bare r1 d1 q1 n1 r2 c1) false) h = absurd (cc)
-chain_item (parts.of_member (docs.alias r1 d1 n1 r2 n2 r3 ns1 c1) false) h = absurd (cc)
-chain_item (parts.of_member (docs.signal r1 n1 r2 None c1) false) h = absurd (cc)
-chain_item (parts.of_member (docs.signal r1 n1 r2 (Some ps1) c1) false) h = absurd (cc)
-chain_item (parts.of_member (docs.method f1) false) h = absurd (cc)
-chain_item (parts.of_member (docs.given n1 r1 ns1 v1) false) h = absurd (cc)
-chain_item (parts.of_member (docs.group n1 r1 ns1 ms1) false) h = absurd (cc)
-chain_item (parts.of_member (docs.child o1) false) h = absurd (cc)
-chain_item (parts.of_object o1) h = absurd (cc)
-chain_item (parts.of_objects r1 os1) h = absurd (cc)
-chain_item (parts.of_document d1) h = absurd (cc)
-chain_item (parts.of_script (docs.script b1 fs1)) h = absurd (cc)
-
-yes_chain : (f : 𝔹) (o : _) (p : _) (ls : Links) → is_chain (last_link f o p ls) ≡ true
-yes_chain f o p no_links = refl
-yes_chain f o p (a_link q r e ls) = yes_chain false q r ls
-
--- a first argument that isn't rounded is evaluated as any other
-first_plain : (a : Around) (how : Option Rounding) (i : Item) (es : Exprs) (s : State) (k : List Value → State → Ask) (b : 𝔹)
-    → is_chain (node_of i) ≡ b → (how ≡ None) ⊎ (b ≡ false)
-    → eval a (top_expr (i ∷ [])) s (λ v t. eval_all a es (v ∷ []) t k) ≡ eval_first a how (an_expr (top_expr (i ∷ [])) es) s k
-first_plain a None (of_expr (chain e o p d ls)) es s k b ff h = refl
-first_plain a (Some r) (of_expr (chain e o p d ls)) es s k b f h = elim h [ inl l ↦ absurd (cc) | inr r ↦ let g : is_chain (last_link true o p ls) ≡ true = yes_chain true o p ls in absurd (cc) ]
-first_plain a how (of_expr (signed g r ss e)) es s k b ff h = refl
-first_plain a how (of_expr (name n r)) es s k b ff h = refl
-first_plain a how (of_expr (number n r)) es s k b ff h = refl
-first_plain a how (of_expr (text us r)) es s k b ff h = refl
-first_plain a how (of_expr (literal l r)) es s k b ff h = refl
-first_plain a how (of_expr (paren r e)) es s k b ff h = refl
-first_plain a how (of_expr (list r ez z)) es s k b ff h = refl
-first_plain a how (of_expr (fields r fs z)) es s k b ff h = refl
-first_plain a how (of_expr (steps e i is)) es s k b ff h = refl
-first_plain a how (of_expr (bumped e i r)) es s k b ff h = refl
-first_plain a how (of_expr (choose e d cs r)) es s k b ff h = refl
-first_plain a how (of_expr (assign t g r ts v)) es s k b ff h = refl
-first_plain a how (mark) es s k b ff h = refl
-first_plain a how (of_step (member n r)) es s k b ff h = refl
-first_plain a how (of_step (element r e)) es s k b ff h = refl
-first_plain a how (of_step (call r ez)) es s k b ff h = refl
-first_plain a how (of_step (binding r ss)) es s k b ff h = refl
-first_plain a how (of_key kk n r) es s k b ff h = refl
-first_plain a how (of_sign f g r) es s k b ff h = refl
-first_plain a how (of_link f o r d) es s k b ff h = refl
-first_plain a how (of_choice f d e) es s k b ff h = refl
-first_plain a how (of_target f t g r) es s k b ff h = refl
-first_plain a how (of_var n r) es s k b ff h = refl
-first_plain a how (of_first no_first) es s k b ff h = refl
-first_plain a how (of_first (first_expr e)) es s k b ff h = refl
-first_plain a how (of_first (first_declare r kk vs)) es s k b ff h = refl
-first_plain a how (of_maybe nothing) es s k b ff h = refl
-first_plain a how (of_maybe (just e)) es s k b ff h = refl
-first_plain a how (of_body ss) es s k b ff h = refl
-first_plain a how (of_stmt (empty r)) es s k b ff h = refl
-first_plain a how (of_stmt (expr e z)) es s k b ff h = refl
-first_plain a how (of_stmt (block r ss)) es s k b ff h = refl
-first_plain a how (of_stmt (declare r kk vs z)) es s k b ff h = refl
-first_plain a how (of_stmt (when r e d)) es s k b ff h = refl
-first_plain a how (of_stmt (either r e d kk)) es s k b ff h = refl
-first_plain a how (of_stmt (while r e d)) es s k b ff h = refl
-first_plain a how (of_stmt (for r i e f d)) es s k b ff h = refl
-first_plain a how (of_stmt (give r nothing z)) es s k b ff h = refl
-first_plain a how (of_stmt (give r (just e) z)) es s k b ff h = refl
-first_plain a how (of_stmt (stop r z)) es s k b ff h = refl
-first_plain a how (of_stmt (again r z)) es s k b ff h = refl
-first_plain a how (parts.of_name n1 r1) es s k b ff h = refl
-first_plain a how (parts.of_dot n1) es s k b ff h = refl
-first_plain a how (parts.of_file n1 r1) es s k b ff h = refl
-first_plain a how (parts.of_qualifier None) es s k b ff h = refl
-first_plain a how (parts.of_qualifier (Some q1)) es s k b ff h = refl
-first_plain a how (parts.of_import (docs.import_module n1 r1 ns1 v1 q1 c1)) es s k b ff h = refl
-first_plain a how (parts.of_import (docs.import_text n1 r1 q1 c1)) es s k b ff h = refl
-first_plain a how (parts.of_kind None) es s k b ff h = refl
-first_plain a how (parts.of_kind (Some docs.kind_var)) es s k b ff h = refl
-first_plain a how (parts.of_kind (Some (docs.kind_name n1 r1 ns1))) es s k b ff h = refl
-first_plain a how (parts.of_kind (Some (docs.kind_list n1 r1))) es s k b ff h = refl
-first_plain a how (parts.of_par_name n1) es s k b ff h = refl
-first_plain a how (parts.of_par n1 q1) es s k b ff h = refl
-first_plain a how (parts.of_signal_par q1 n1) es s k b ff h = refl
-first_plain a how (parts.of_function (docs.function r1 n1 r2 ps1 q1 ss1)) es s k b ff h = refl
-first_plain a how (parts.of_member x1 true) es s k b ff h = refl
-first_plain a how (parts.of_member (docs.id r1 n1 r2 c1) false) es s k b ff h = refl
-first_plain a how (parts.of_member (docs.property r1 d1 q1 n1 r2 v1) false) es s k b ff h = refl
-first_plain a how (parts.of_member (docs.bare r1 d1 q1 n1 r2 c1) false) es s k b ff h = refl
-first_plain a how (parts.of_member (docs.alias r1 d1 n1 r2 n2 r3 ns1 c1) false) es s k b ff h = refl
-first_plain a how (parts.of_member (docs.signal r1 n1 r2 None c1) false) es s k b ff h = refl
-first_plain a how (parts.of_member (docs.signal r1 n1 r2 (Some ps1) c1) false) es s k b ff h = refl
-first_plain a how (parts.of_member (docs.method f1) false) es s k b ff h = refl
-first_plain a how (parts.of_member (docs.given n1 r1 ns1 v1) false) es s k b ff h = refl
-first_plain a how (parts.of_member (docs.group n1 r1 ns1 ms1) false) es s k b ff h = refl
-first_plain a how (parts.of_member (docs.child o1) false) es s k b ff h = refl
-first_plain a how (parts.of_object o1) es s k b ff h = refl
-first_plain a how (parts.of_objects r1 os1) es s k b ff h = refl
-first_plain a how (parts.of_document d1) es s k b ff h = refl
-first_plain a how (parts.of_script (docs.script b1 fs1)) es s k b ff h = refl
-
--- what is done with the arguments of the call at a place
-abbrev call_with : Laid → Where → code_callee.Callee → ℕ → Standing → List Value → State → Ask
-call_with c x f q old vs t = called (around_at x) (callee_of c f) vs t (λ r u. on_from c x q old (a_value r) u)
-
-abbrev first_then : Laid → Where → Option Rounding → code_callee.Callee → ℕ → Standing → List Item → Ask
-first_then c x how f q old is = eval_first (around_at x) how (exprs_in is) (state_of old) (call_with c x f q old)
-
-plain_first : (w : World) (c : Laid) (x : Where) (how : Option Rounding) (f : code_callee.Callee) (q r : ℕ) (b : 𝔹) (old new : Standing) (y : Next)
-    → is_chain (node_of (c.item r)) ≡ b → (how ≡ None) ⊎ (b ≡ false) → Pushes (frame.All (purpose.Call f q) [] r) r old new y
-    → told w c (around_at x) new y ≡ on w old (first_then c x how f q old (c.item r ∷ c.rest r))
-plain_first w c x how f q r b old new y e g h =
-    pushed w c (around_at x) (frame.All (purpose.Call f q) [] r) r old new y h
-    ∙ ap (λ z. on w old z) (first_plain (around_at x) how (c.item r) (exprs_in (c.rest r)) (state_of old) (call_with c x f q old) b e g)
-
-rounded_first : (w : World) (c : Laid) (x : Where) (how : Rounding) (f : code_callee.Callee) (q r : ℕ) (i : Item) (old new : Standing) (y : Next)
-    → c.item r ≡ i → IsChain i → RoundedFirst c how f q r old new y
-    → told w c (around_at x) new y ≡ on w old (first_then c x (Some how) f q old (i ∷ c.rest r))
-rounded_first w c x how f q r i old new y ie (a_chain e o p d ls) h =
-    let a : Around = around_at x in
-    let es : Exprs = exprs_in (c.rest r) in
-    let k : List Value → State → Ask = call_with c x f q old in
-    let go : State → Ask = λ s. eval a e s (λ v t. linked a (Some how) (a_link o p d ls) v t (λ u z. eval_all a es (u ∷ []) z k)) in
-    elim h [
-      | inl l ↦ threw_on w c a cause.Nodes old new y l.1 ∙ ap (λ z. on w old z) (sym (counted_none old.left go l.0))
-      | inr z ↦
-          (let t : ℕ = (z.1).0 in
-          let before : Standing = with_frame (frame.All (purpose.Call f q) [] r) (without_node old) in
-          let parts : of_expr e ∷ links_parts true o p d ls ≡ c.item t ∷ c.rest t = sym (ap (λ j. parts_of j) ie) ∙ (z.1).1 in
-          let le : links_in (node_of (c.item r)) (c.rest t) ≡ a_link o p d ls =
-          ap (λ j. links_in (node_of j) (c.rest t)) ie ∙ ap (λ js. links_in (last_link true o p ls) js) (rest_is (of_expr e) (c.item t) (links_parts true o p d ls) (c.rest t) parts) ∙ links_are true o p d ls in
-          pushed w c a (frame.Chain (Some how) r t) t before new y (z.1).2
-          ∙ ap (λ j. on w old (eval a (top_expr (j ∷ [])) (plain (old.left - 1)) (λ v s. linked a (Some how) (links_in (node_of (c.item r)) (c.rest t)) v s (λ u z. eval_all a es (u ∷ []) z k)))) (first_is (of_expr e) (c.item t) (links_parts true o p d ls) (c.rest t) parts)
-          ∙ ap (λ js. on w old (eval a e (plain (old.left - 1)) (λ v s. linked a (Some how) js v s (λ u z. eval_all a es (u ∷ []) z k)))) le
-          ∙ ap (λ z. on w old z) (sym (counted_some old.left go z.0)))
-    ]
-
-first_on : (w : World) (c : Laid) (x : Where) (how : Option Rounding) (b : 𝔹) (f : code_callee.Callee) (q r : ℕ) (old new : Standing) (y : Next)
-    → is_chain (node_of (c.item r)) ≡ b → FirstBy c how b f q r old new y
-    → told w c (around_at x) new y ≡ on w old (first_then c x how f q old (c.item r ∷ c.rest r))
-first_on w c x None true f q r old new y e h = plain_first w c x None f q r true old new y e (inl refl) h
-first_on w c x None false f q r old new y e h = plain_first w c x None f q r false old new y e (inl refl) h
-first_on w c x (Some how) false f q r old new y e h = plain_first w c x (Some how) f q r false old new y e (inr refl) h
-first_on w c x (Some how) true f q r old new y e h = rounded_first w c x how f q r (c.item r) old new y refl (chain_item (c.item r) e) h
-
-pub args_on : (w : World) (c : Laid) (x : Where) (f : code_callee.Callee) (q : ℕ) (old new : Standing) (y : Next)
-    → m.Args w c f q old new y → told w c (around_at x) new y ≡ told w c (around_at x) old (next.Args f q)
-args_on w c x f q old new y h =
-    let how : Option Rounding = rounding_of (callee_of c f) in
-    let re : behind_mark (parts_of (c.item q)) ≡ c.rest h.0 = ap (λ z. behind_mark z) h.1 in
-    elim h.2 [
-      | inl l ↦ finished_on w c x (purpose.Call f q) [] old new y l.1 ∙ ap (λ z. on w old (first_then c x how f q old z)) (sym l.0) ∙ ap (λ z. on w old (first_then c x how f q old z)) (sym re)
-      | inr r ↦ first_on w c x how (is_chain (node_of (c.item r.0))) f q r.0 old new y refl r.2
-          ∙ ap (λ z. on w old (first_then c x how f q old z)) (sym r.1) ∙ ap (λ z. on w old (first_then c x how f q old z)) (sym re)
-    ]
+    → m.Signs w c x.home g (node_of (c.item at)) at old new y → told w c x new y ≡ told w c x old (next.Signs g at)
+signs_on w c x g at old new y h = signs_by w c x g (c.item at) (is_sign (node_of (c.item at))) at old new y refl refl h

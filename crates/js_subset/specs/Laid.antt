@@ -7,8 +7,10 @@ use Rattle.qml_syntax.specs.declared.operators.Prefix.{Prefix}
 use Rattle.qml_syntax.specs.declared.operators.Prefix.TheVariants as prefix
 use Rattle.qml_syntax.specs.declared.node.Node.{Node}
 use Rattle.qml_syntax.specs.declared.node.Node.TheVariants as node
-use Rattle.qml_syntax.specs.Tree.{Expr, Exprs, no_exprs, an_expr, Steps, no_steps, a_step, Links, no_links, a_link, Choices, no_choices, a_choice}
-use Rattle.qml_syntax.specs.Nodes.{Item, of_step, of_link, of_choice, Table, top_expr}
+use Rattle.qml_syntax.specs.declared.literal.Declaration.{Declaration}
+use Rattle.qml_syntax.specs.Tree.{Expr, Exprs, no_exprs, an_expr, Steps, no_steps, a_step, Links, no_links, a_link, Choices, no_choices, a_choice, Stmt, Stmts, no_stmts, a_stmt, Maybe, nothing}
+use Rattle.qml_syntax.specs.Nodes.{Item, of_step, of_link, of_choice, Table, top_expr, top_stmt, top_maybe, no_stmt}
+use Rattle.qml_syntax.specs.Opened.{node_of}
 use Rattle.qml_syntax.specs.Places.{part_at, behind}
 
 -- the part whose node stands at a place, and the parts behind it in the node that takes it
@@ -37,7 +39,13 @@ place_in _ = record { line = 0; column = 0 }
 abbrev pub name_at : Node → List ℕ
 name_at (node.Name n p) = n
 name_at (node.Member n p) = n
+name_at (node.Var n p) = n
+name_at (node.ParameterName n) = n
 name_at _ = []
+
+-- the name that stands at a place
+abbrev pub name_of : Laid → ℕ → List ℕ
+name_of c p = name_at (node_of (c.item p))
 
 abbrev pub is_chain : Node → 𝔹
 is_chain (node.Chain f o p) = true
@@ -55,6 +63,22 @@ abbrev pub is_bump : Prefix → 𝔹
 is_bump prefix.Increment = true
 is_bump prefix.Decrement = true
 is_bump _ = false
+
+abbrev pub is_expr_node : Node → 𝔹
+is_expr_node (node.Name n p) = true
+is_expr_node (node.Number n p) = true
+is_expr_node (node.Text n p) = true
+is_expr_node (node.Literal l p) = true
+is_expr_node (node.Paren p) = true
+is_expr_node (node.List p b) = true
+is_expr_node (node.Fields p b) = true
+is_expr_node node.Steps = true
+is_expr_node (node.Postfix i p) = true
+is_expr_node (node.Signed f g p) = true
+is_expr_node (node.Chain f o p) = true
+is_expr_node node.Choose = true
+is_expr_node node.Assign = true
+is_expr_node _ = false
 
 -- ---- parts in a row
 
@@ -79,3 +103,21 @@ steps_in _ = no_steps
 abbrev pub exprs_in : List Item → Exprs
 exprs_in [] = no_exprs
 exprs_in (i ∷ is) = an_expr (top_expr (i ∷ [])) (exprs_in is)
+
+abbrev pub stmts_in : List Item → Stmts
+stmts_in [] = no_stmts
+stmts_in (i ∷ is) = a_stmt (top_stmt (i ∷ [])) (stmts_in is)
+
+-- ---- behind the beginning of a `for`: its test, its update and its statement
+
+abbrev pub test_in : List Item → Maybe
+test_in [] = nothing
+test_in (i ∷ is) = top_maybe (i ∷ [])
+
+abbrev pub update_in : List Item → Maybe
+update_in (i ∷ j ∷ is) = top_maybe (j ∷ [])
+update_in _ = nothing
+
+abbrev pub for_body_in : List Item → Stmt
+for_body_in (i ∷ j ∷ is) = top_stmt is
+for_body_in _ = no_stmt

@@ -1,5 +1,8 @@
 pub mod Laid
+pub mod Scopes
 pub mod Standing
 pub mod Meant
 pub mod Moves
+pub mod Gathering
+pub mod Statements
 pub mod Stepping

@@ -25,6 +25,7 @@ use Rattle.js_meaning.specs.declared.rounding.Rounding.{Rounding}
 use Rattle.js_meaning.specs.Operate.{counts, bounded, weighed, operate_prefix, same_units, is_nothing}
 use Rattle.js_meaning.specs.Rows.{list_value, at_place}
 use Rattle.js_meaning.specs.Methods.{method_of, math_method, text_from, part_of_cell}
+use Rattle.js_meaning.specs.Locals.{Held, dead, alive, local}
 use Rattle.js_meaning.specs.Looking.{decides, literal_value, plain_member, at_number}
 use Rattle.js_meaning.specs.Calling.{is_enumerated, is_qt_binding, script_home}
 use Rattle.js_meaning.specs.Eval.{if_no_link, operate_by, rounding_of}
@@ -40,9 +41,10 @@ use Rattle.js_subset.specs.declared.frames.Purpose.{Purpose}
 use Rattle.js_subset.specs.declared.frames.Purpose.TheVariants as purpose
 use Rattle.js_subset.specs.declared.frames.To.{To}
 use Rattle.js_subset.specs.declared.frames.To.TheVariants as to
-use Rattle.js_subset.specs.Laid.{Laid, is_chain, is_choice, is_name, is_bump, links_in}
+use Rattle.js_subset.specs.Laid.{Laid, is_chain, is_choice, is_name, is_bump, links_in, name_of}
+use Rattle.js_subset.specs.Scopes.{scopes_of}
 use Rattle.js_subset.specs.Standing.{Standing, with_frame, with_read, without_node}
-use Rattle.js_subset.specs.Meant.{World, name_of, callee_of}
+use Rattle.js_subset.specs.Meant.{World, callee_of}
 
 -- nothing changes but what comes next
 abbrev pub Turns : Next → Standing → Standing → Next → Type 0
@@ -94,6 +96,23 @@ FoundGives w t n found.Global old new y = Turns (global_next t n) old new y
 FoundGives w t n found.Nothing old new y = Turns (threw cause.Name) old new y
 FoundGives w t n f old new y = Turns (threw cause.Kind) old new y
 
+-- what a local gives that is found
+abbrev pub local_next : To → Option Held → Option Next
+local_next t None = None
+local_next t (Some dead) = Some (threw cause.Name)
+local_next t (Some (alive w v)) = Some (arrive t v)
+
+abbrev pub local_in : Laid → List ℕ → Standing → Option Held
+local_in c n m = local n (scopes_of c m.locals)
+
+-- what a local gives, and where there is none the other
+abbrev pub OrElse : Option Next → Type 0 → Standing → Standing → Next → Type 0
+OrElse (Some z) R old new y = Turns z old new y
+OrElse None R old new y = R
+
+abbrev pub NameGives : World → Laid → Home → To → List ℕ → Standing → Standing → Next → Type 0
+NameGives w c x t n old new y = OrElse (local_next t (local_in c n old)) (FoundGives w t n (w.names.resolve x n) old new y) old new y
+
 abbrev pub MemberGives : World → To → Found → Standing → Standing → Next → Type 0
 MemberGives w t (found.Cell cell) old new y = ReadGives w t cell old new y
 MemberGives w t (found.Object o) old new y = Turns (arrive t (Object o)) old new y
@@ -129,10 +148,10 @@ abbrev pub PartGives : World → To → List ℕ → CellNo → Value → Standi
 PartGives w t n h (Num z) old new y = (new ≡ with_read h old) × (y ≡ arrive_part t n z h (w.view h))
 PartGives w t n h v old new y = Turns (threw cause.Kind) old new y
 
--- all values of a row are there; where a function's body is called nothing is said
+-- all values of a row are there
 abbrev pub Finishes : World → Laid → Purpose → List Value → Standing → Standing → Next → Type 0
 Finishes w c purpose.List vs old new y = Turns (next_of (weighed (list_value vs))) old new y
-Finishes w c (purpose.Call (calls.Body e o) q) vs old new y = ⊥
+Finishes w c (purpose.Call (calls.Body e o) q) vs old new y = Turns (next.Enter e o vs q) old new y
 Finishes w c (purpose.Call (calls.Signal o i) q) vs old new y = Turns (threw cause.Call) old new y
 Finishes w c (purpose.Call (calls.Reading o h p) q) vs old new y = PartGives w (to.Step q) (name_of c p) h (at_place vs 0) old new y
 Finishes w c (purpose.Call (calls.Doing o p) q) vs old new y = Turns (threw cause.Call) old new y
@@ -179,7 +198,7 @@ abbrev pub BeginsList : World → Laid → ℕ → Standing → Standing → Nex
 BeginsList w c at old new y = (q : ℕ) × FirstPart c at q × AllFrom w c purpose.List [] q old new y
 
 abbrev pub Begins : World → Laid → Home → Node → ℕ → Standing → Standing → Next → Type 0
-Begins w c x (node.Name n p) at old new y = FoundGives w to.Back n (w.names.resolve x n) old new y
+Begins w c x (node.Name n p) at old new y = NameGives w c x to.Back n old new y
 Begins w c x (node.Number n p) at old new y = Turns (next_of (bounded (pos n))) old new y
 Begins w c x (node.Text us p) at old new y = Turns (next_of (weighed (Text us))) old new y
 Begins w c x (node.Literal l p) at old new y = Turns (next.Back (literal_value l)) old new y
@@ -204,25 +223,28 @@ typed_found t n found.Nothing w old new y = Turns (arrive t Undefined) old new y
 typed_found t n f w old new y = FoundGives w t n f old new y
 
 -- a name directly behind `typeof`
-abbrev pub TypedName : World → Home → List ℕ → Standing → Standing → Next → Type 0
-TypedName w x n old new y =
-    ((old.left ≡ 0) × Turns (threw cause.Nodes) old new y)
-    ⊎ ((0 < old.left) × typed_found to.Back n (w.names.resolve x n) w (with_frame (frame.Sign prefix.TypeOf) (without_node old)) new y)
+abbrev pub NameTyped : World → Laid → Home → List ℕ → Standing → Standing → Next → Type 0
+NameTyped w c x n old new y = OrElse (local_next to.Back (local_in c n old)) (typed_found to.Back n (w.names.resolve x n) w old new y) old new y
 
-abbrev pub OperandSigned : World → Home → Prefix → Node → ℕ → Standing → Standing → Next → Type 0
-OperandSigned w x prefix.TypeOf (node.Name n p) at old new y = TypedName w x n old new y
-OperandSigned w x g z at old new y = Pushes (frame.Sign g) at old new y
+abbrev pub TypedName : World → Laid → Home → List ℕ → Standing → Standing → Next → Type 0
+TypedName w c x n old new y =
+    ((old.left ≡ 0) × Turns (threw cause.Nodes) old new y)
+    ⊎ ((0 < old.left) × NameTyped w c x n (with_frame (frame.Sign prefix.TypeOf) (without_node old)) new y)
+
+abbrev pub OperandSigned : World → Laid → Home → Prefix → Node → ℕ → Standing → Standing → Next → Type 0
+OperandSigned w c x prefix.TypeOf (node.Name n p) at old new y = TypedName w c x n old new y
+OperandSigned w c x g z at old new y = Pushes (frame.Sign g) at old new y
 
 abbrev pub Signs : World → Laid → Home → Prefix → Node → ℕ → Standing → Standing → Next → Type 0
 Signs w c x g (node.Sign f h p) at old new y = (q : ℕ) × (c.rest at ≡ c.item q ∷ c.rest q) × (new ≡ with_frame (frame.Sign h) old) × (y ≡ next.Signs g q)
-Signs w c x g z at old new y = OperandSigned w x g z at old new y
+Signs w c x g z at old new y = OperandSigned w c x g z at old new y
 
 -- ---- steps
 
 -- the value of what stands before a step
 abbrev pub ValueBefore : World → Laid → Home → Before → To → Standing → Standing → Next → Type 0
 ValueBefore w c x (stands.Value v) t old new y = Turns (arrive t v) old new y
-ValueBefore w c x (stands.Name p) t old new y = FoundGives w t (name_of c p) (w.names.resolve x (name_of c p)) old new y
+ValueBefore w c x (stands.Name p) t old new y = NameGives w c x t (name_of c p) old new y
 ValueBefore w c x (stands.OfValue v p) t old new y = MemberOf w t v (name_of c p) old new y
 ValueBefore w c x (stands.OfNamed v o p q) t old new y = MemberGives w t (w.names.member o (name_of c q)) old new y
 ValueBefore w c x (stands.OfScript u p) t old new y = Turns (threw cause.Kind) old new y
@@ -240,7 +262,8 @@ NamedMember w c p q f old new y = FoundGives w (to.Member q) (name_of c p) f old
 
 abbrev pub MemberOfName : World → Laid → Home → ℕ → ℕ → 𝔹 → Standing → Standing → Next → Type 0
 MemberOfName w c x r q true old new y = Turns (next.Step stands.Binding q) old new y
-MemberOfName w c x r q false old new y = NamedMember w c r q (w.names.resolve x (name_of c r)) old new y
+MemberOfName w c x r q false old new y =
+    OrElse (local_next (to.Member q) (local_in c (name_of c r) old)) (NamedMember w c r q (w.names.resolve x (name_of c r)) old new y) old new y
 
 abbrev pub MemberNext : World → Laid → Home → Before → ℕ → ℕ → Standing → Standing → Next → Type 0
 MemberNext w c x (stands.Value v) p q old new y = Turns (next.Step (stands.OfValue v q) q) old new y
@@ -295,7 +318,8 @@ global_callee m n q =
 
 abbrev pub CalleeNext : World → Laid → Home → Before → ℕ → Standing → Standing → Next → Type 0
 CalleeNext w c x (stands.Value v) q old new y = called_at calls.Nothing q old new y
-CalleeNext w c x (stands.Name p) q old new y = NamedCallee w c p q (w.names.resolve x (name_of c p)) old new y
+CalleeNext w c x (stands.Name p) q old new y =
+    OrElse (local_next (to.Nothing q) (local_in c (name_of c p) old)) (NamedCallee w c p q (w.names.resolve x (name_of c p)) old new y) old new y
 CalleeNext w c x (stands.OfValue v m) q old new y = ValueCallee w c v m q old new y
 CalleeNext w c x (stands.OfNamed v o p m) q old new y = MemberCallee w (w.names.is_id x (name_of c p)) m q (w.names.member o (name_of c m)) old new y
 CalleeNext w c x (stands.OfScript u m) q old new y = called_at (script_callee (w.names.resolve (script_home u) (name_of c m))) q old new y
@@ -367,3 +391,4 @@ Resumes w c (frame.Sign g) v old new y = Turns (next_of (operate_prefix g v)) ol
 Resumes w c (frame.First p) v old new y = Turns (next.Step (stands.Value v) p) old new y
 Resumes w c (frame.Index l p) v old new y = ElementOf w (to.Step p) l v old new y
 Resumes w c (frame.All what vs p) v old new y = AllFrom w c what (vs ++ v ∷ []) p old new y
+Resumes w c f v old new y = ⊥

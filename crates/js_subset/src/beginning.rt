@@ -6,11 +6,11 @@ ghost use Rattle.js_meaning.specs.Operate.{bounded, weighed};
 ghost use Rattle.js_meaning.specs.Looking.{literal_value};
 ghost use Rattle.js_subset.specs.Laid.{laid, is_name, is_bump};
 ghost use Rattle.js_subset.specs.Standing.{standing};
-ghost use Rattle.js_subset.specs.Moves.{Turns, next_of, typed_found, BeginsChain, BeginsSigned, BeginsSteps, BeginsChoice, BeginsMembers, BeginsList, Begins, BeginsCounted, TypedName, OperandSigned, Signs};
+ghost use Rattle.js_subset.specs.Moves.{Turns, next_of, typed_found, BeginsChain, BeginsSigned, BeginsSteps, BeginsChoice, BeginsMembers, BeginsList, Begins, BeginsCounted, NameTyped, TypedName, OperandSigned, Signs};
 
 use crate::finishing::all_from;
 use crate::frames::{Before, Frame, Next, Purpose, To};
-use crate::looking::{arrive, found_value, next_of, threw};
+use crate::looking::{arrive, found_value, local_value, name_value, next_of, threw};
 use crate::machine::Machine;
 use crate::parts::{first_part, next_part, node_at};
 use crate::resuming::pushed;
@@ -165,10 +165,7 @@ pub(crate) fn entered<V: View>(
     ensures { IfOk result (λ y. Begins (record { names = V.names view.now; view = V.seen view.now }) (laid tree.now) home node.now at (standing machine.old) (standing machine.new) y) }
 {
     match node {
-        Node::Name(name, _) => {
-            let found = view.resolve(home, name);
-            found_value(machine, alloc, view, To::Back, name, found)
-        }
+        Node::Name(name, _) => name_value(machine, alloc, tree, view, home, To::Back, name),
         Node::Number(n, _) => Ok(number(*n)),
         Node::Text(units, _) => text(alloc, units),
         Node::Literal(value, _) => Ok(Next::Back(literal(*value))),
@@ -229,39 +226,60 @@ fn typed_value<V: View>(
     }
 }
 
-/// A name directly behind `typeof`.
-fn typed_name<V: View>(
+/// What a name directly behind `typeof` gives, a local first.
+fn name_typed<V: View>(
     machine: &mut Machine,
     alloc: Global,
+    tree: &Tree,
     view: &V,
     home: Home,
     name: &Text,
 ) -> Result<Next, NoMemory>
-    ensures { IfOk result (λ y. TypedName (record { names = V.names view.now; view = V.seen view.now }) home name.now (standing machine.old) (standing machine.new) y) }
+    ensures { IfOk result (λ y. NameTyped (record { names = V.names view.now; view = V.seen view.now }) (laid tree.now) home name.now (standing machine.old) (standing machine.new) y) }
+{
+    match local_value(&machine.locals, alloc, tree, To::Back, name)? {
+        Some(next) => Ok(next),
+        None => {
+            let found = view.resolve(home, name);
+            typed_value(machine, alloc, view, name, found)
+        }
+    }
+}
+
+/// A name directly behind `typeof`.
+fn typed_name<V: View>(
+    machine: &mut Machine,
+    alloc: Global,
+    tree: &Tree,
+    view: &V,
+    home: Home,
+    name: &Text,
+) -> Result<Next, NoMemory>
+    ensures { IfOk result (λ y. TypedName (record { names = V.names view.now; view = V.seen view.now }) (laid tree.now) home name.now (standing machine.old) (standing machine.new) y) }
 {
     if machine.left == 0 {
         return Ok(threw(Cause::Nodes));
     }
     machine.left -= 1;
     machine.frames.push(Frame::Sign(Prefix::TypeOf))?;
-    let found = view.resolve(home, name);
-    typed_value(machine, alloc, view, name, found)
+    name_typed(machine, alloc, tree, view, home, name)
 }
 
 /// Begins the operand of prefixes.
 fn operand_signed<V: View>(
     machine: &mut Machine,
     alloc: Global,
+    tree: &Tree,
     view: &V,
     home: Home,
     op: Prefix,
     node: &Node,
     at: usize,
 ) -> Result<Next, NoMemory>
-    ensures { IfOk result (λ y. OperandSigned (record { names = V.names view.now; view = V.seen view.now }) home op node.now at (standing machine.old) (standing machine.new) y) }
+    ensures { IfOk result (λ y. OperandSigned (record { names = V.names view.now; view = V.seen view.now }) (laid tree.now) home op node.now at (standing machine.old) (standing machine.new) y) }
 {
     match (op, node) {
-        (Prefix::TypeOf, Node::Name(name, _)) => typed_name(machine, alloc, view, home, name),
+        (Prefix::TypeOf, Node::Name(name, _)) => typed_name(machine, alloc, tree, view, home, name),
         _ => pushed(machine, Frame::Sign(op), at),
     }
 }
@@ -289,6 +307,6 @@ pub(crate) fn signs<V: View>(
             }
             None => Err(NoMemory),
         },
-        _ => operand_signed(machine, alloc, view, home, op, node, at),
+        _ => operand_signed(machine, alloc, tree, view, home, op, node, at),
     }
 }

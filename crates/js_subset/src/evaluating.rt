@@ -1,43 +1,22 @@
 //! Evaluation of whole texts.
 
-ghost use Rattle.std.specs.Prelude.{◌≡◌, ◌+◌, IfSome};
-ghost use Rattle.qml_base.specs.declared.numbers.ExprNo.{ExprNo};
-ghost use Rattle.qml_base.specs.declared.names.Home.{Home};
-ghost use Rattle.qml_syntax.specs.Tree.{Whole};
-ghost use Rattle.qml_syntax.specs.Nodes.{Table};
-ghost use Rattle.qml_syntax.specs.Opened.{root_of};
-ghost use Rattle.qml_syntax.specs.Places.{part_at};
+ghost use Rattle.std.specs.Prelude.{◌≡◌, ◌+◌};
 ghost use Rattle.evaluation.specs.Hearing.{heard, Answers};
-ghost use Rattle.js_meaning.specs.Eval.{Code as Meaning, asks_whole};
-ghost use Rattle.js_subset.specs.Laid.{laid};
-ghost use Rattle.js_subset.specs.Stepping.{IsOutcome, Evaluates};
+ghost use Rattle.js_meaning.specs.Eval.{asks_whole};
+ghost use Rattle.js_subset.specs.Stepping.{IsOutcome, EndsAs};
 
-use crate::frames::{Next, Stack};
+use crate::code::Code;
+use crate::frames::{Here, Next, Stack};
+use crate::locals::Locals;
 use crate::machine::Machine;
-use crate::running::{run, start};
+use crate::running::run;
+use crate::starting::start;
 use evaluation::{Evaluated, Rules, View};
-use qml_base::{CellNo, ExprNo, Home, NODE_LIMIT, Steps};
+use qml_base::{CALL_LIMIT, CellNo, ExprNo, Home, NODE_LIMIT, Steps};
 use qml_syntax::Tree;
 use std::alloc::Global;
 use std::mem;
 use std::sync::ledger::Ledger;
-
-/// The texts of all units, by their numbers.
-pub trait Code {
-    ghost meaning: { Self → Meaning };
-
-    ghost texts: { Self → ExprNo → Whole };
-
-    ghost tables: { Self → ExprNo → Table };
-
-    /// The tree that a text stands in.
-    fn tree(&self, text: ExprNo) -> Option<&Tree>
-        ensures { IfSome result (λ t. t.now ≡ tables self.now text) };
-
-    /// Where its node stands there.
-    fn place(&self, text: ExprNo) -> usize
-        ensures { part_at (tables self.now text) result ≡ root_of (texts self.now text) };
-}
 
 /// What has ended.
 fn outcome(next: Next) -> Evaluated
@@ -49,28 +28,27 @@ fn outcome(next: Next) -> Evaluated
     }
 }
 
-/// Evaluates the text that stands at a place of a tree, of all nodes that may be begun.
-#[tactic(auto, using(crate::proofs::EndLemmas::evaluates))]
-fn evaluated<V: View>(
+/// Goes on from what a text begins with to its end.
+#[tactic(auto, using(crate::proofs::EndLemmas::ends_as, crate::proofs::EndLemmas::no_answer))]
+fn run_to_end<V: View, C: Code>(
     alloc: Global,
     view: &V,
-    tree: &Tree,
-    at: usize,
-    home: Home,
+    code: &C,
+    here: Here,
+    locals: Locals,
+    first: Next,
     reads: &mut Vec<CellNo>,
 ) -> Evaluated
-    ensures { Evaluates (record { names = V.names view.now; view = V.seen view.now }) (laid tree.now) at home reads.old.items reads.new.items result }
+    ensures { EndsAs (record { names = V.names view.now; view = V.seen view.now }) (C.meaning code.now) (C.tables code.now) here locals first reads.old.items reads.new.items result }
 {
-    let Ok(first) = start(tree, at) else {
-        return Evaluated::NoMemory;
-    };
-    let before = mem::replace(reads, Vec::new(alloc));
+    let mut here = here;
     let mut machine = Machine {
         frames: Stack::new(alloc),
-        reads: before,
+        reads: mem::replace(reads, Vec::new(alloc)),
         left: NODE_LIMIT,
+        locals,
     };
-    let ended = run(&mut machine, alloc, tree, view, home, first);
+    let ended = run(&mut machine, alloc, view, code, &mut here, first);
     *reads = machine.reads;
     match ended {
         Ok(next) => outcome(next),
@@ -78,8 +56,8 @@ fn evaluated<V: View>(
     }
 }
 
-/// Evaluates a text by a view, and adds the cells that it read, in order. It takes one step. Of a binding that is a statement
-/// other than an expression the answer is want of memory, as of one that comes to the call of a function.
+/// Evaluates a text by a view, and adds the cells that it read, in order. It takes one step.
+#[tactic(auto, using(crate::proofs::EndLemmas::evaluates))]
 pub fn eval<V: View, C: Code, L: Ledger>(
     alloc: Global,
     view: &V,
@@ -93,10 +71,19 @@ pub fn eval<V: View, C: Code, L: Ledger>(
     ensures steps { steps.new ≡ steps.old + 1 }
 {
     steps.tick();
-    match code.tree(text) {
-        Some(tree) => evaluated(alloc, view, tree, code.place(text), home, reads),
-        None => Evaluated::NoMemory,
-    }
+    let Some(tree) = code.tree(text) else {
+        return Evaluated::NoMemory;
+    };
+    let Ok(begun) = start(alloc, tree, code.place(text)) else {
+        return Evaluated::NoMemory;
+    };
+    let (locals, first) = begun;
+    let here = Here {
+        home,
+        text,
+        calls: CALL_LIMIT,
+    };
+    run_to_end(alloc, view, code, here, locals, first, reads)
 }
 
 /// The evaluation of the texts of units.

@@ -4,9 +4,9 @@ ghost use Rattle.std.specs.Prelude.{◌≡◌, ◌∷◌, [], IfOk};
 ghost use Rattle.qml_syntax.specs.Opened.{node_of, parts_of};
 ghost use Rattle.js_meaning.specs.Rows.{at_place};
 ghost use Rattle.js_meaning.specs.Eval.{rounding_by, rounding_of};
-ghost use Rattle.js_subset.specs.Laid.{laid, is_chain};
+ghost use Rattle.js_subset.specs.Laid.{laid, is_chain, name_of};
 ghost use Rattle.js_subset.specs.Standing.{standing};
-ghost use Rattle.js_subset.specs.Meant.{name_of, callee_of};
+ghost use Rattle.js_subset.specs.Meant.{callee_of};
 ghost use Rattle.js_subset.specs.Moves.{Turns, arrive_part, PartGives, Finishes, AllFrom, RoundedFirst, FirstBy, Args as ArgsMove};
 
 use crate::frames::{Callee, Frame, Next, Purpose, To};
@@ -65,7 +65,7 @@ fn part_given<V: View>(
     }
 }
 
-/// Calls what is called with all arguments. A body isn't called yet.
+/// Calls what is called with all arguments.
 fn call_finished<V: View>(
     machine: &mut Machine,
     alloc: Global,
@@ -73,12 +73,12 @@ fn call_finished<V: View>(
     view: &V,
     callee: Callee,
     at: usize,
-    values: &[Value],
+    arguments: Args,
 ) -> Result<Next, NoMemory>
-    ensures { IfOk result (λ y. Finishes (record { names = V.names view.now; view = V.seen view.now }) (laid tree.now) (Purpose.Call callee at) values.now (standing machine.old) (standing machine.new) y) }
+    ensures { IfOk result (λ y. Finishes (record { names = V.names view.now; view = V.seen view.now }) (laid tree.now) (Purpose.Call callee at) arguments (standing machine.old) (standing machine.new) y) }
 {
     match callee {
-        Callee::Body(_, _) => Err(NoMemory),
+        Callee::Body(body, object) => Ok(Next::Enter(body, object, arguments, at)),
         Callee::Signal(_, _) | Callee::Doing(_, _) | Callee::Log | Callee::Nothing => {
             Ok(threw(Cause::Call))
         }
@@ -86,20 +86,20 @@ fn call_finished<V: View>(
         Callee::Reading(_, cell, place) => {
             let name = name_of(tree, place)?;
             let absent = Value::Undefined;
-            let first = first_of(values, &absent);
+            let first = first_of(arguments.values(), &absent);
             part_given(machine, alloc, view, To::Step(at), name, cell, first)
         }
         Callee::Method(value, place) => {
             let name = name_of(tree, place)?;
-            let ended = method(alloc, &value, name, values)?;
+            let ended = method(alloc, &value, name, arguments.values())?;
             Ok(arrive_ended(To::Step(at), ended))
         }
         Callee::Math(place) => {
             let name = name_of(tree, place)?;
-            Ok(arrive_ended(To::Step(at), math(name, values)))
+            Ok(arrive_ended(To::Step(at), math(name, arguments.values())))
         }
         Callee::Text => {
-            let ended = text_from(alloc, values)?;
+            let ended = text_from(alloc, arguments.values())?;
             Ok(arrive_ended(To::Step(at), ended))
         }
     }
@@ -119,7 +119,7 @@ fn finished<V: View>(
     match purpose {
         Purpose::List => Ok(next_of(weighed_list(values.into_values()))),
         Purpose::Call(callee, at) => {
-            call_finished(machine, alloc, tree, view, callee, at, values.values())
+            call_finished(machine, alloc, tree, view, callee, at, values)
         }
     }
 }
@@ -259,7 +259,10 @@ pub(crate) fn arguments<V: View>(
         return Err(NoMemory);
     };
     match next_part(tree, mark) {
-        None => call_finished(machine, alloc, tree, view, callee, at, &[]),
+        None => {
+            let none = Args::of_vec(Vec::new(alloc));
+            call_finished(machine, alloc, tree, view, callee, at, none)
+        }
         Some(part) => {
             let Some(node) = node_at(tree, part) else {
                 return Err(NoMemory);

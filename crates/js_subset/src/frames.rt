@@ -2,10 +2,11 @@
 
 ghost use Rattle.std.specs.Prelude.{◌≡◌, [], ◌∷◌, OnOk, MatchOption};
 
+use crate::locals::Locals;
 use evaluation::{Args, Evaluated};
 use js_meaning::Rounding;
-use qml_base::{CellNo, ExprNo, ObjNo, UnitNo};
-use qml_syntax::{Operator, Prefix};
+use qml_base::{CellNo, ExprNo, Home, ObjNo, UnitNo};
+use qml_syntax::{Declaration, Operator, Prefix};
 use qml_value::Value;
 use std::alloc::{AllocFailed, Global};
 use std::marker::Model;
@@ -50,6 +51,14 @@ pub enum Callee {
     Nothing,
 }
 
+/// Where code stands: where its names are looked for, which text it is of, and how many calls may still be opened.
+#[derive(Clone, Copy)]
+pub struct Here {
+    pub home: Home,
+    pub text: ExprNo,
+    pub calls: u32,
+}
+
 /// What values in a row are for.
 #[derive(Drop)]
 pub enum Purpose {
@@ -58,7 +67,7 @@ pub enum Purpose {
     Call(Callee, usize),
 }
 
-/// What is done with the value that is awaited.
+/// What is done with the value that is awaited, or behind the statement that is run.
 #[derive(Drop)]
 pub enum Frame {
     /// Of the chain at the first place it is the value of what ends with the part at the second; the last quotient is
@@ -76,6 +85,34 @@ pub enum Frame {
     Index(Value, usize),
     /// It is the value of the part at a place, behind these in their row.
     All(Purpose, Args, usize),
+    /// It is that of an expression statement.
+    Dropped,
+    /// It is the condition at a place, of an `if`.
+    When(usize),
+    /// It is the condition at a place, of a `while` with this many rounds left.
+    Test(u32, usize),
+    /// It is that of the expression at this place with which a `for` begins.
+    ForFirst(usize),
+    /// It is the test of the `for` that begins at this place, with this many rounds left.
+    ForTest(u32, usize),
+    /// It is that of the update of the `for` that begins at this place, with this many rounds left.
+    ForUpdate(u32, usize),
+    /// It is that of a `return`.
+    Returned,
+    /// It is that of the expression at the second place, of the name declared at the first.
+    Var(Declaration, usize, usize),
+    /// The statement at a place is run, of several.
+    Row(usize),
+    /// A scope is open.
+    Scope,
+    /// The statement is run of the `while` whose condition stands at a place, with this many rounds left.
+    Round(u32, usize),
+    /// The names are declared with which the `for` begins at this place.
+    ForStart(usize),
+    /// The statement is run of the `for` that begins at this place, with this many rounds left.
+    ForRound(u32, usize),
+    /// A body is run for the call at a place, of code that stands there and has these locals.
+    Call(Here, Locals, usize),
 }
 
 /// What comes next.
@@ -91,6 +128,22 @@ pub enum Next {
     Signs(Prefix, usize),
     /// The arguments of the call at a place.
     Args(Callee, usize),
+    /// A body is called with an object as its scope and these arguments, by the call at a place.
+    Enter(ExprNo, ObjNo, Args, usize),
+    /// The statement at a place is run.
+    Run(usize),
+    /// The statements behind a place are run.
+    Rest(usize),
+    /// The names behind a place are declared.
+    Vars(Declaration, usize),
+    /// A statement has been run.
+    Done,
+    /// A value is returned.
+    Give(Value),
+    /// A loop is left.
+    Stop,
+    /// A loop goes on with its next round.
+    Again,
     /// All has ended.
     Ended(Evaluated),
 }

@@ -3,12 +3,14 @@
 ghost use Rattle.std.specs.Prelude.{◌≡◌, IfOk, IfSome};
 ghost use Rattle.qml_syntax.specs.Opened.{node_of};
 ghost use Rattle.js_meaning.specs.Looking.{plain_member, at_number};
-ghost use Rattle.js_subset.specs.Laid.{laid, name_at};
+ghost use Rattle.js_meaning.specs.Locals.{local};
+ghost use Rattle.js_subset.specs.Laid.{laid, name_at, name_of};
+ghost use Rattle.js_subset.specs.Scopes.{scopes_of, held_of};
 ghost use Rattle.js_subset.specs.Standing.{standing};
-ghost use Rattle.js_subset.specs.Meant.{name_of};
-ghost use Rattle.js_subset.specs.Moves.{arrive, arrive_ended, next_of, global_next, no_index, ReadGives, FoundGives, MemberGives, MemberOf, ElementOf};
+ghost use Rattle.js_subset.specs.Moves.{arrive, arrive_ended, next_of, global_next, no_index, local_next, NameGives, ReadGives, FoundGives, MemberGives, MemberOf, ElementOf};
 
 use crate::frames::{Before, Callee, Next, To};
+use crate::locals::{Local, Locals, find};
 use crate::machine::Machine;
 use crate::parts::node_at;
 use evaluation::{Ended, Evaluated, Seen, View};
@@ -36,6 +38,8 @@ fn name_in(node: &Node) -> Option<&Text>
     match node {
         Node::Name(name, _) => Some(name),
         Node::Member(name, _) => Some(name),
+        Node::Var(name, _) => Some(name),
+        Node::ParameterName(name) => Some(name),
         _ => None,
     }
 }
@@ -146,6 +150,57 @@ pub(crate) fn found_value<V: View>(
         Found::Nothing => Ok(threw(Cause::Name)),
         Found::Body(_, _) | Found::Signal(_, _) | Found::Method(_, _) | Found::Script(_) => {
             Ok(threw(Cause::Kind))
+        }
+    }
+}
+
+/// What a local gives where it goes.
+fn taken(alloc: Global, to: To, local: &Local) -> Result<Option<Next>, NoMemory>
+    ensures { IfOk result (λ o. o ≡ local_next to (held_of local.now)) }
+{
+    match local {
+        Local::Scope => Ok(None),
+        Local::Dead(_) => Ok(Some(threw(Cause::Name))),
+        Local::Alive(_, _, value) => {
+            let value = copied(alloc, value)?;
+            Ok(Some(arrive(to, value)))
+        }
+    }
+}
+
+/// What the local of a name gives where it goes, if there is one.
+pub(crate) fn local_value(
+    locals: &Locals,
+    alloc: Global,
+    tree: &Tree,
+    to: To,
+    name: &Text,
+) -> Result<Option<Next>, NoMemory>
+    ensures { IfOk result (λ o. o ≡ local_next to (local name.now (scopes_of (laid tree.now) locals.now))) }
+{
+    match find(locals, tree, name)? {
+        Some(local) => taken(alloc, to, local),
+        None => Ok(None),
+    }
+}
+
+/// What a name gives.
+pub(crate) fn name_value<V: View>(
+    machine: &mut Machine,
+    alloc: Global,
+    tree: &Tree,
+    view: &V,
+    home: Home,
+    to: To,
+    name: &Text,
+) -> Result<Next, NoMemory>
+    ensures { IfOk result (λ y. NameGives (record { names = V.names view.now; view = V.seen view.now }) (laid tree.now) home to name.now (standing machine.old) (standing machine.new) y) }
+{
+    match local_value(&machine.locals, alloc, tree, to, name)? {
+        Some(next) => Ok(next),
+        None => {
+            let found = view.resolve(home, name);
+            found_value(machine, alloc, view, to, name, found)
         }
     }
 }

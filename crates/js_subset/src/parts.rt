@@ -2,9 +2,9 @@
 
 ghost use Rattle.std.specs.Prelude.{◌≡◌, [], ◌∷◌, IfSome, MatchOption};
 ghost use Rattle.qml_syntax.specs.Opened.{node_of, parts_of, IsListing};
-ghost use Rattle.js_subset.specs.Laid.{laid, op_of, is_chain, is_choice, is_name};
+ghost use Rattle.js_subset.specs.Laid.{laid, is_expr_node};
 
-use qml_syntax::{Node, Operator, Tree};
+use qml_syntax::{Node, Tree};
 
 /// The node at a place.
 #[tactic(auto, using(crate::proofs::LaidLemmas::part_here))]
@@ -29,4 +29,17 @@ pub(crate) fn next_part(tree: &Tree, part: usize) -> Option<usize>
     ensures { MatchOption result ((laid tree.now).rest part ≡ []) (λ q. (laid tree.now).rest part ≡ (laid tree.now).item q ∷ (laid tree.now).rest q) }
 {
     tree.next(part)
+}
+
+/// Whether a node is that of an expression.
+pub(crate) fn is_expression(node: &Node) -> bool
+    ensures { result ≡ is_expr_node node.now }
+{
+    match node {
+        Node::Name(_, _) | Node::Number(_, _) | Node::Text(_, _) | Node::Literal(_, _) => true,
+        Node::Paren(_) | Node::List(_, _) | Node::Fields(_, _) | Node::Steps => true,
+        Node::Postfix(_, _) | Node::Signed(_, _, _) | Node::Chain(_, _, _) => true,
+        Node::Choose | Node::Assign => true,
+        _ => false,
+    }
 }

@@ -272,5 +272,6 @@ pub(crate) fn resumed<V: View>(
         Frame::All(purpose, values, part) => {
             row_on(machine, alloc, tree, view, purpose, values, part, value)
         }
+        _ => Err(NoMemory),
     }
 }

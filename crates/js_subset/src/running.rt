@@ -1,27 +1,62 @@
 //! The machine from its start to its end.
 
-ghost use Rattle.std.specs.Prelude.{◌≡◌, IfOk, Some};
-ghost use Rattle.qml_syntax.specs.Opened.{node_of};
+ghost use Rattle.std.specs.Prelude.{◌≡◌, ◌∷◌, [], IfOk};
 ghost use Rattle.js_subset.specs.Laid.{laid};
-ghost use Rattle.js_subset.specs.Standing.{standing};
-ghost use Rattle.js_subset.specs.Stepping.{GoesAt, has_ended_of, is_expr_node, is_expr_stmt, StartsAt};
+ghost use Rattle.js_subset.specs.Standing.{standing, with_frame};
+ghost use Rattle.js_subset.specs.Statements.{GoesOn, Gives, Stops, GoesAgain};
+ghost use Rattle.js_subset.specs.Stepping.{GoesAt, Goes, Unwinds, has_ended_of};
 
 use crate::beginning::{begun, signs};
+use crate::calling::{entered, returned};
+use crate::code::Code;
 use crate::finishing::arguments;
-use crate::frames::Next;
+use crate::frames::{Frame, Here, Next};
 use crate::machine::Machine;
-use crate::parts::{first_part, node_at};
 use crate::resuming::resumed;
+use crate::statements::{declared, rested, run_at, taken};
 use crate::stepping::stepped;
+use crate::unwinding::{gives, goes_again, goes_on, stops};
 use evaluation::{Evaluated, View};
 use qml_base::Home;
-use qml_syntax::{Node, Tree};
+use qml_syntax::Tree;
 use qml_text::NoMemory;
 use qml_value::Value;
 use std::alloc::Global;
 
+/// Whether a frame is of a statement that awaits a value.
+fn is_of_statement(frame: &Frame) -> bool {
+    match frame {
+        Frame::Dropped | Frame::When(_) | Frame::Test(_, _) | Frame::ForFirst(_) => true,
+        Frame::ForTest(_, _) | Frame::ForUpdate(_, _) | Frame::Returned => true,
+        Frame::Var(_, _, _) => true,
+        _ => false,
+    }
+}
+
+/// Goes on with a value that a frame awaits.
+#[tactic(auto, using(crate::proofs::EndLemmas::resumes_at, crate::proofs::EndLemmas::takes_at))]
+fn back_to<V: View>(
+    machine: &mut Machine,
+    alloc: Global,
+    tree: &Tree,
+    view: &V,
+    home: Home,
+    frame: Frame,
+    value: Value,
+) -> Result<Next, NoMemory>
+    ensures { IfOk result (λ y. GoesAt (record { names = V.names view.now; view = V.seen view.now }) (laid tree.now) home (with_frame frame (standing machine.old)) (Next.Back value) (standing machine.new) y) }
+{
+    if is_of_statement(&frame) {
+        let next = taken(machine, alloc, tree, frame, value)?;
+        Ok(next)
+    } else {
+        let next = resumed(machine, alloc, tree, view, frame, value)?;
+        Ok(next)
+    }
+}
+
 /// Gives a value back to what awaits it.
-#[tactic(auto, using(crate::proofs::EndLemmas::ends_here, crate::proofs::EndLemmas::resumes_at))]
+#[tactic(auto, using(crate::proofs::EndLemmas::ends_here))]
 fn back<V: View>(
     machine: &mut Machine,
     alloc: Global,
@@ -35,15 +70,15 @@ fn back<V: View>(
     match machine.frames.pop() {
         None => Ok(Next::Ended(Evaluated::Value(value))),
         Some(frame) => {
-            let next = resumed(machine, alloc, tree, view, frame, value)?;
+            let next = back_to(machine, alloc, tree, view, home, frame, value)?;
             Ok(next)
         }
     }
 }
 
-/// One move.
-#[tactic(auto, using(crate::proofs::EndLemmas::begun_at, crate::proofs::EndLemmas::steps_at, crate::proofs::EndLemmas::signs_at, crate::proofs::EndLemmas::args_at, crate::proofs::EndLemmas::stays_at))]
-fn moved<V: View>(
+/// One move within the code that is under way.
+#[tactic(auto, using(crate::proofs::EndLemmas::begun_at, crate::proofs::EndLemmas::steps_at, crate::proofs::EndLemmas::signs_at, crate::proofs::EndLemmas::args_at, crate::proofs::EndLemmas::runs_at, crate::proofs::EndLemmas::rests_at, crate::proofs::EndLemmas::vars_at, crate::proofs::EndLemmas::stays_at))]
+fn moved_within<V: View>(
     machine: &mut Machine,
     alloc: Global,
     tree: &Tree,
@@ -71,7 +106,124 @@ fn moved<V: View>(
             let next = arguments(machine, alloc, tree, view, callee, at)?;
             Ok(next)
         }
+        Next::Run(at) => {
+            let next = run_at(machine, alloc, tree, at)?;
+            Ok(next)
+        }
+        Next::Rest(part) => {
+            let next = rested(machine, tree, part)?;
+            Ok(next)
+        }
+        Next::Vars(kind, part) => {
+            let next = declared(machine, alloc, tree, kind, part)?;
+            Ok(next)
+        }
+        Next::Enter(_, _, _, _)
+        | Next::Done
+        | Next::Give(_)
+        | Next::Stop
+        | Next::Again => Err(NoMemory),
         Next::Ended(outcome) => Ok(Next::Ended(outcome)),
+    }
+}
+
+/// Goes on behind a statement.
+fn done(machine: &mut Machine, here: &mut Here, tree: &Tree) -> Result<Next, NoMemory>
+    ensures { IfOk result (λ y. Unwinds (GoesOn (laid tree.now)) Value.Undefined here.old here.new (standing machine.old) (standing machine.new) y) }
+{
+    match machine.frames.pop() {
+        None => Ok(Next::Ended(Evaluated::Value(Value::Undefined))),
+        Some(Frame::Call(caller, locals, at)) => {
+            Ok(returned(machine, here, caller, locals, at, Value::Undefined))
+        }
+        Some(frame) => goes_on(machine, tree, frame),
+    }
+}
+
+/// Goes on behind a `return` with this value.
+fn given(
+    machine: &mut Machine,
+    here: &mut Here,
+    tree: &Tree,
+    value: Value,
+) -> Result<Next, NoMemory>
+    ensures { IfOk result (λ y. Unwinds (λ f. Gives (laid tree.now) f value) value here.old here.new (standing machine.old) (standing machine.new) y) }
+{
+    match machine.frames.pop() {
+        None => Ok(Next::Ended(Evaluated::Value(value))),
+        Some(Frame::Call(caller, locals, at)) => {
+            Ok(returned(machine, here, caller, locals, at, value))
+        }
+        Some(frame) => gives(machine, tree, frame, value),
+    }
+}
+
+/// Goes on behind a `break`.
+fn stopped(machine: &mut Machine, here: &mut Here, tree: &Tree) -> Result<Next, NoMemory>
+    ensures { IfOk result (λ y. Unwinds (Stops (laid tree.now)) Value.Undefined here.old here.new (standing machine.old) (standing machine.new) y) }
+{
+    match machine.frames.pop() {
+        None => Ok(Next::Ended(Evaluated::Value(Value::Undefined))),
+        Some(Frame::Call(caller, locals, at)) => {
+            Ok(returned(machine, here, caller, locals, at, Value::Undefined))
+        }
+        Some(frame) => stops(machine, tree, frame),
+    }
+}
+
+/// Goes on behind a `continue`.
+fn repeated(machine: &mut Machine, here: &mut Here, tree: &Tree) -> Result<Next, NoMemory>
+    ensures { IfOk result (λ y. Unwinds (GoesAgain (laid tree.now)) Value.Undefined here.old here.new (standing machine.old) (standing machine.new) y) }
+{
+    match machine.frames.pop() {
+        None => Ok(Next::Ended(Evaluated::Value(Value::Undefined))),
+        Some(Frame::Call(caller, locals, at)) => {
+            Ok(returned(machine, here, caller, locals, at, Value::Undefined))
+        }
+        Some(frame) => goes_again(machine, tree, frame),
+    }
+}
+
+/// One move.
+#[tactic(auto, using(crate::proofs::CallLemmas::enters_when, crate::proofs::CallLemmas::done_when, crate::proofs::CallLemmas::given_when, crate::proofs::CallLemmas::stopped_when, crate::proofs::CallLemmas::repeated_when, crate::proofs::CallLemmas::within_at))]
+fn moved<V: View, C: Code>(
+    machine: &mut Machine,
+    alloc: Global,
+    view: &V,
+    code: &C,
+    here: &mut Here,
+    next: Next,
+) -> Result<Next, NoMemory>
+    ensures { IfOk result (λ y. Goes (record { names = V.names view.now; view = V.seen view.now }) (C.meaning code.now) (C.tables code.now) here.old here.new (standing machine.old) next (standing machine.new) y) }
+{
+    let Some(tree) = code.tree(here.text) else {
+        return Err(NoMemory);
+    };
+    match next {
+        Next::Enter(body, object, values, at) => {
+            let next = entered(machine, alloc, code, here, body, object, values, at)?;
+            Ok(next)
+        }
+        Next::Done => {
+            let next = done(machine, here, tree)?;
+            Ok(next)
+        }
+        Next::Give(value) => {
+            let next = given(machine, here, tree, value)?;
+            Ok(next)
+        }
+        Next::Stop => {
+            let next = stopped(machine, here, tree)?;
+            Ok(next)
+        }
+        Next::Again => {
+            let next = repeated(machine, here, tree)?;
+            Ok(next)
+        }
+        other => {
+            let next = moved_within(machine, alloc, tree, view, here.home, other)?;
+            Ok(next)
+        }
     }
 }
 
@@ -88,68 +240,24 @@ fn has_ended(next: &Next) -> bool
 /// More moves than any evaluation takes.
 const MOST: u64 = 1_000_000_000;
 
-/// Evaluates the expression at a place to its end.
+/// Goes on to the end.
 #[tactic(auto, using(crate::proofs::EndLemmas::goes_on, crate::proofs::EndLemmas::goes_nowhere))]
-pub(crate) fn run<V: View>(
+pub(crate) fn run<V: View, C: Code>(
     machine: &mut Machine,
     alloc: Global,
-    tree: &Tree,
     view: &V,
-    home: Home,
-    at: usize,
+    code: &C,
+    here: &mut Here,
+    first: Next,
 ) -> Result<Next, NoMemory>
-    ensures { IfOk result (λ y. GoesAt (record { names = V.names view.now; view = V.seen view.now }) (laid tree.now) home (standing machine.old) (Next.Begin at) (standing machine.new) y) }
+    ensures { IfOk result (λ y. Goes (record { names = V.names view.now; view = V.seen view.now }) (C.meaning code.now) (C.tables code.now) here.old here.new (standing machine.old) first (standing machine.new) y) }
 {
-    let mut next = Next::Begin(at);
+    let mut next = first;
     'moves: for _ in 0..MOST {
         if has_ended(&next) {
             break;
         }
-        next = moved(machine, alloc, tree, view, home, next)?;
+        next = moved(machine, alloc, view, code, here, next)?;
     }
     Ok(next)
-}
-
-/// Whether a node is that of an expression.
-fn is_expression(node: &Node) -> bool
-    ensures { result ≡ is_expr_node node.now }
-{
-    match node {
-        Node::Name(_, _) | Node::Number(_, _) | Node::Text(_, _) | Node::Literal(_, _) => true,
-        Node::Paren(_) | Node::List(_, _) | Node::Fields(_, _) | Node::Steps => true,
-        Node::Postfix(_, _) | Node::Signed(_, _, _) | Node::Chain(_, _, _) => true,
-        Node::Choose | Node::Assign => true,
-        _ => false,
-    }
-}
-
-/// Whether a node is that of an expression that is a statement.
-fn is_expression_statement(node: &Node) -> bool
-    ensures { result ≡ is_expr_stmt node.now }
-{
-    match node {
-        Node::Expression(_) => true,
-        _ => false,
-    }
-}
-
-/// Where the expression of the text at a place stands; of other statements nothing is said.
-#[tactic(auto, using(crate::proofs::EndLemmas::starts_here, crate::proofs::EndLemmas::starts_inside))]
-pub(crate) fn start(tree: &Tree, at: usize) -> Result<usize, NoMemory>
-    ensures { IfOk result (λ p. StartsAt (laid tree.now) at p) }
-{
-    let Some(node) = node_at(tree, at) else {
-        return Err(NoMemory);
-    };
-    if is_expression(node) {
-        return Ok(at);
-    }
-    if is_expression_statement(node) {
-        match first_part(tree, at) {
-            Some(inside) => Ok(inside),
-            None => Err(NoMemory),
-        }
-    } else {
-        Err(NoMemory)
-    }
 }

@@ -4,13 +4,14 @@ ghost use Rattle.std.specs.Prelude.{◌≡◌, [], ◌∷◌, IfOk, if◌then◌
 ghost use Rattle.js_meaning.specs.Operate.{same_units};
 ghost use Rattle.qml_syntax.specs.Opened.{node_of, parts_of};
 ghost use Rattle.js_meaning.specs.Calling.{is_enumerated, is_qt_binding, is_one_of, script_home};
-ghost use Rattle.js_subset.specs.Laid.{laid};
+ghost use Rattle.js_subset.specs.Laid.{laid, name_of};
 ghost use Rattle.js_subset.specs.Standing.{standing};
-ghost use Rattle.js_subset.specs.Meant.{name_of};
 ghost use Rattle.js_subset.specs.Moves.{arrive, ValueBefore, NamedMember, MemberOfName, MemberNext, ElementNext, method_called, NamedCallee, MemberCallee, ValueCallee, script_callee, global_callee, CalleeNext, StepNext, Steps};
 
 use crate::frames::{Before, Callee, Frame, Next, To};
-use crate::looking::{arrive, found_member, found_value, member, name_of, read_cell, threw};
+use crate::looking::{
+    arrive, found_member, found_value, local_value, member, name_of, name_value, read_cell, threw,
+};
 use crate::machine::Machine;
 use crate::parts::{first_part, next_part, node_at};
 use crate::resuming::pushed;
@@ -87,8 +88,7 @@ fn value_before<V: View>(
         Before::Value(value) => Ok(arrive(to, value)),
         Before::Name(place) => {
             let name = name_of(tree, place)?;
-            let found = view.resolve(home, name);
-            found_value(machine, alloc, view, to, name, found)
+            name_value(machine, alloc, tree, view, home, to, name)
         }
         Before::OfValue(value, place) => {
             let name = name_of(tree, place)?;
@@ -175,8 +175,13 @@ fn member_of_name<V: View>(
     if is_qt_binding(text, member) {
         return Ok(Next::Step(Before::Binding, at));
     }
-    let found = view.resolve(home, text);
-    named_member(machine, alloc, tree, view, name, at, found)
+    match local_value(&machine.locals, alloc, tree, To::Member(at), text)? {
+        Some(next) => Ok(next),
+        None => {
+            let found = view.resolve(home, text);
+            named_member(machine, alloc, tree, view, name, at, found)
+        }
+    }
 }
 
 /// The member at a place, of what stands behind another.
@@ -374,6 +379,28 @@ fn script_home(unit: UnitNo) -> Home
     }
 }
 
+/// What a name calls that the call at a place calls, a local first.
+fn name_called<V: View>(
+    machine: &mut Machine,
+    alloc: Global,
+    tree: &Tree,
+    view: &V,
+    home: Home,
+    name: usize,
+    at: usize,
+) -> Result<Next, NoMemory>
+    ensures { IfOk result (λ y. CalleeNext (record { names = V.names view.now; view = V.seen view.now }) (laid tree.now) home (Before.Name name) at (standing machine.old) (standing machine.new) y) }
+{
+    let text = name_of(tree, name)?;
+    match local_value(&machine.locals, alloc, tree, To::Nothing(at), text)? {
+        Some(next) => Ok(next),
+        None => {
+            let found = view.resolve(home, text);
+            named_callee(machine, alloc, tree, view, name, at, found)
+        }
+    }
+}
+
 /// What the call at a place calls.
 fn callee_next<V: View>(
     machine: &mut Machine,
@@ -388,10 +415,7 @@ fn callee_next<V: View>(
 {
     match before {
         Before::Value(_) => Ok(Next::Args(Callee::Nothing, at)),
-        Before::Name(name) => {
-            let found = view.resolve(home, name_of(tree, name)?);
-            named_callee(machine, alloc, tree, view, name, at, found)
-        }
+        Before::Name(name) => name_called(machine, alloc, tree, view, home, name, at),
         Before::OfValue(value, name) => {
             value_callee(machine, alloc, tree, view, value, name, at)
         }

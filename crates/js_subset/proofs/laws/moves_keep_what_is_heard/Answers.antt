@@ -1,5 +1,7 @@
 use Rattle.js_subset.proofs.BeginLemmas.{begun_on}
-use Rattle.js_subset.proofs.StepLemmas.{resumed_on, steps_on, signs_on, args_on}
+use Rattle.js_subset.proofs.StepLemmas.{resumed_on, steps_on, signs_on}
+use Rattle.js_subset.proofs.ArgumentLemmas.{args_on}
+use Rattle.js_subset.proofs.StatementLemmas.{takes_on, runs_on, rests_on, declares_on, goes_on_on, gives_on, stops_on, goes_again_on}
 use Rattle.js_subset.proofs.laws.moves_keep_what_is_heard.Goals as goal
 
 pub returns-clause-begun : goal.returns-clause-begun
@@ -16,3 +18,27 @@ returns-clause-signs c = signs_on
 
 pub returns-clause-arguments : goal.returns-clause-arguments
 returns-clause-arguments c = args_on
+
+pub returns-clause-taken : goal.returns-clause-taken
+returns-clause-taken c = takes_on
+
+pub returns-clause-run : goal.returns-clause-run
+returns-clause-run c = runs_on
+
+pub returns-clause-rested : goal.returns-clause-rested
+returns-clause-rested c = rests_on
+
+pub returns-clause-declared : goal.returns-clause-declared
+returns-clause-declared c = declares_on
+
+pub returns-clause-gone_on : goal.returns-clause-gone_on
+returns-clause-gone_on c = goes_on_on
+
+pub returns-clause-given : goal.returns-clause-given
+returns-clause-given c = gives_on
+
+pub returns-clause-stopped : goal.returns-clause-stopped
+returns-clause-stopped c = stops_on
+
+pub returns-clause-repeated : goal.returns-clause-repeated
+returns-clause-repeated c = goes_again_on

@@ -4,12 +4,10 @@ use Rattle.js_subset.specs.declared.frames.Next.TheVariants as next
 use Rattle.js_subset.specs.Laid.{laid}
 use Rattle.js_subset.specs.Standing.{standing}
 use Rattle.js_subset.specs.Stepping.{GoesAt}
-use Rattle.js_subset.proofs.EndLemmas.{resumes_at}
 use Rattle.js_subset.proofs.running.back.Goals as goal
 
 pub returns-in_ok-next-in-Some : goal.returns-in_ok-next-in-Some
 returns-in_ok-next-in-Some g c =
-    subst (λ (fs : List Frame). GoesAt (record { names = g.V.View.names c.args.view.now; view = g.V.View.seen c.args.view.now }) (laid c.args.tree.now) c.args.home (record { frames = fs; reads = c.args.machine.now.reads.items; left = c.args.machine.now.left }) (next.Back c.args.value) (standing c.resumed.new.machine) c.in_ok-next-in-Some.next)
-    (sym c.in-Some.ensures)
-    (resumes_at (record { names = g.V.View.names c.args.view.now; view = g.V.View.seen c.args.view.now }) (laid c.args.tree.now) c.args.home c.in-Some.frame c.args.value
-    (record { frames = c.pop.new.self; reads = c.args.machine.now.reads.items; left = c.args.machine.now.left }) (standing c.resumed.new.machine) c.in_ok-next-in-Some.next c.in_ok-next-in-Some.ensures)
+    subst (λ (fs : List Frame). GoesAt (record { names = g.V.View.names c.args.view.now; view = g.V.View.seen c.args.view.now }) (laid c.args.tree.now) c.args.home
+    (record { frames = fs; reads = c.args.machine.now.reads.items; left = c.args.machine.now.left; locals = c.args.machine.now.locals }) (next.Back c.args.value) (standing c.back_to.new.machine) c.in_ok-next-in-Some.next)
+    (sym c.in-Some.ensures) c.in_ok-next-in-Some.ensures

@@ -1,31 +1,23 @@
-use Rattle.std.proofs.Common.{subst, sym}
-use Rattle.js_subset.specs.declared.frames.Next.{Next}
-use Rattle.js_subset.specs.Laid.{laid}
 use Rattle.js_subset.specs.Standing.{standing}
-use Rattle.js_subset.specs.Stepping.{GoesAt}
-use Rattle.js_subset.proofs.EndLemmas.{begun_at, steps_at, signs_at, args_at}
+use Rattle.js_subset.proofs.CallLemmas.{enters_when, done_when, given_when, stopped_when, repeated_when}
 use Rattle.js_subset.proofs.running.moved.Goals as goal
 
-pub returns-in_ok-next-in-Begin : goal.returns-in_ok-next-in-Begin
-returns-in_ok-next-in-Begin g c =
-    subst (λ (z : Next). GoesAt (record { names = g.V.View.names c.args.view.now; view = g.V.View.seen c.args.view.now }) (laid c.args.tree.now) c.args.home (standing c.args.machine.now) z (standing c.begun.new.machine) c.in_ok-next-in-Begin.next)
-    (sym c.in-Begin.is)
-    (begun_at (record { names = g.V.View.names c.args.view.now; view = g.V.View.seen c.args.view.now }) (laid c.args.tree.now) c.args.home c.in-Begin.at (standing c.args.machine.now) (standing c.begun.new.machine) c.in_ok-next-in-Begin.next c.in_ok-next-in-Begin.ensures)
+pub returns-in_ok-next-in-Enter : goal.returns-in_ok-next-in-Enter
+returns-in_ok-next-in-Enter g c =
+    enters_when (record { names = g.V.View.names c.args.view.now; view = g.V.View.seen c.args.view.now }) (g.C.Code.meaning c.args.code.now) (g.C.Code.tables c.args.code.now) c.args.here.now c.entered.new.here c.in-Enter.body c.in-Enter.object c.in-Enter.values c.in-Enter.at (standing c.args.machine.now) c.args.next (standing c.entered.new.machine) c.in_ok-next-in-Enter.next c.in-Enter.is c.in_ok-next-in-Enter.ensures
 
-pub returns-in_ok-next-in-Step : goal.returns-in_ok-next-in-Step
-returns-in_ok-next-in-Step g c =
-    subst (λ (z : Next). GoesAt (record { names = g.V.View.names c.args.view.now; view = g.V.View.seen c.args.view.now }) (laid c.args.tree.now) c.args.home (standing c.args.machine.now) z (standing c.stepped.new.machine) c.in_ok-next-in-Step.next)
-    (sym c.in-Step.is)
-    (steps_at (record { names = g.V.View.names c.args.view.now; view = g.V.View.seen c.args.view.now }) (laid c.args.tree.now) c.args.home c.in-Step.before c.in-Step.part (standing c.args.machine.now) (standing c.stepped.new.machine) c.in_ok-next-in-Step.next c.in_ok-next-in-Step.ensures)
+pub returns-in_ok-next-in-Done : goal.returns-in_ok-next-in-Done
+returns-in_ok-next-in-Done g c =
+    done_when (record { names = g.V.View.names c.args.view.now; view = g.V.View.seen c.args.view.now }) (g.C.Code.meaning c.args.code.now) (g.C.Code.tables c.args.code.now) c.args.here.now c.done.new.here c.in-Some.tree.now (standing c.args.machine.now) c.args.next (standing c.done.new.machine) c.in_ok-next-in-Done.next c.in-Done.is c.in-Some.ensures c.in_ok-next-in-Done.ensures
 
-pub returns-in_ok-next-in-Signs : goal.returns-in_ok-next-in-Signs
-returns-in_ok-next-in-Signs g c =
-    subst (λ (z : Next). GoesAt (record { names = g.V.View.names c.args.view.now; view = g.V.View.seen c.args.view.now }) (laid c.args.tree.now) c.args.home (standing c.args.machine.now) z (standing c.signs.new.machine) c.in_ok-next-in-Signs.next)
-    (sym c.in-Signs.is)
-    (signs_at (record { names = g.V.View.names c.args.view.now; view = g.V.View.seen c.args.view.now }) (laid c.args.tree.now) c.args.home c.in-Signs.op c.in-Signs.at (standing c.args.machine.now) (standing c.signs.new.machine) c.in_ok-next-in-Signs.next c.in_ok-next-in-Signs.ensures)
+pub returns-in_ok-next-in-Give : goal.returns-in_ok-next-in-Give
+returns-in_ok-next-in-Give g c =
+    given_when (record { names = g.V.View.names c.args.view.now; view = g.V.View.seen c.args.view.now }) (g.C.Code.meaning c.args.code.now) (g.C.Code.tables c.args.code.now) c.args.here.now c.given.new.here c.in-Some.tree.now c.in-Give.value (standing c.args.machine.now) c.args.next (standing c.given.new.machine) c.in_ok-next-in-Give.next c.in-Give.is c.in-Some.ensures c.in_ok-next-in-Give.ensures
 
-pub returns-in_ok-next-in-Args : goal.returns-in_ok-next-in-Args
-returns-in_ok-next-in-Args g c =
-    subst (λ (z : Next). GoesAt (record { names = g.V.View.names c.args.view.now; view = g.V.View.seen c.args.view.now }) (laid c.args.tree.now) c.args.home (standing c.args.machine.now) z (standing c.arguments.new.machine) c.in_ok-next-in-Args.next)
-    (sym c.in-Args.is)
-    (args_at (record { names = g.V.View.names c.args.view.now; view = g.V.View.seen c.args.view.now }) (laid c.args.tree.now) c.args.home c.in-Args.callee c.in-Args.at (standing c.args.machine.now) (standing c.arguments.new.machine) c.in_ok-next-in-Args.next c.in_ok-next-in-Args.ensures)
+pub returns-in_ok-next-in-Stop : goal.returns-in_ok-next-in-Stop
+returns-in_ok-next-in-Stop g c =
+    stopped_when (record { names = g.V.View.names c.args.view.now; view = g.V.View.seen c.args.view.now }) (g.C.Code.meaning c.args.code.now) (g.C.Code.tables c.args.code.now) c.args.here.now c.stopped.new.here c.in-Some.tree.now (standing c.args.machine.now) c.args.next (standing c.stopped.new.machine) c.in_ok-next-in-Stop.next c.in-Stop.is c.in-Some.ensures c.in_ok-next-in-Stop.ensures
+
+pub returns-in_ok-next-in-Again : goal.returns-in_ok-next-in-Again
+returns-in_ok-next-in-Again g c =
+    repeated_when (record { names = g.V.View.names c.args.view.now; view = g.V.View.seen c.args.view.now }) (g.C.Code.meaning c.args.code.now) (g.C.Code.tables c.args.code.now) c.args.here.now c.repeated.new.here c.in-Some.tree.now (standing c.args.machine.now) c.args.next (standing c.repeated.new.machine) c.in_ok-next-in-Again.next c.in-Again.is c.in-Some.ensures c.in_ok-next-in-Again.ensures

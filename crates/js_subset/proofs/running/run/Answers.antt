@@ -1,5 +1,5 @@
-use Rattle.std.proofs.Common.{◌∙◌}
+use Rattle.js_subset.proofs.EndLemmas.{goes_on}
 use Rattle.js_subset.proofs.running.run.Goals as goal
 
 pub moves-preserved : goal.moves-preserved
-moves-preserved g c = λ x e. c.in_ok-next.ensures x e ∙ c.moves.invariant x e
+moves-preserved g c = goes_on _ _ _ _ _ _ _ _ _ _ _ _ c.moves.invariant c.in_ok-next.ensures

@@ -1,8 +1,7 @@
-use Rattle.js_subset.specs.declared.frames.Next.TheVariants as next
-use Rattle.js_subset.specs.Laid.{laid}
 use Rattle.js_subset.specs.Standing.{standing}
-use Rattle.js_subset.specs.Stepping.{GoesAt}
+use Rattle.js_subset.specs.Stepping.{Goes}
 use Rattle.js_subset.proofs.running.run.Given as goal
 
 abbrev pub invariant-moves : goal.invariant-moves
-invariant-moves g l = GoesAt (record { names = g.V.View.names l.view; view = g.V.View.seen l.view }) (laid l.tree) l.home (standing l.fn.machine) (next.Begin l.at) (standing l.machine) l.next
+invariant-moves g l =
+    Goes (record { names = g.V.View.names l.view; view = g.V.View.seen l.view }) (g.C.Code.meaning l.code) (g.C.Code.tables l.code) l.fn.here l.here (standing l.fn.machine) l.fn.first (standing l.machine) l.next

@@ -1,0 +1,157 @@
+//! Evaluates expressions over a plain view, and says what each comes to. With the word `speed` each is evaluated a million
+//! times, and the processor's time of one is told. It is no part of the product.
+#![tactic(auto)]
+
+ghost use Rattle.std.specs.Prelude.{◌≡◌, ◌<◌};
+
+use eval_tests::plain::{Function, OneText, Plain};
+use evaluation::{Evaluated, Rules};
+use js_parser::{parse_body, parse_expr};
+use js_subset::UnitRules;
+use qml_base::{ExprNo, Home, ObjNo, Steps, UnitNo};
+use qml_lexer::lex;
+use qml_syntax::{Node, Token, Tree};
+use qml_text::Text;
+use qml_value::{Num, Value};
+use std::alloc::Global;
+use std::marker::Brand;
+use std::sync::ledger::{Blank, Ledger};
+use std::time::CpuClock;
+use std::{env, io};
+
+/// Where all texts stand.
+const TEXT: ExprNo = ExprNo {
+    unit: UnitNo(0),
+    at: 0,
+};
+
+/// Where their names are looked for.
+const HOME: Home = Home {
+    unit: UnitNo(0),
+    scope: ObjNo(1),
+    author: ObjNo(1),
+};
+
+/// What is evaluated.
+const SOURCES: [&str; 4] = ["a + 1", "f ? a : 1", "first(2, 3)", "'ab' + a"];
+
+/// The tokens of a source.
+fn tokens(alloc: Global, source: &str) -> Option<Vec<Token>> {
+    if source.len() > 4_194_304 {
+        return None;
+    }
+    lex(alloc, source.as_bytes()).ok()
+}
+
+/// Where a name stands in a tree, at first.
+fn place_of(alloc: Global, tree: &Tree, name: &str) -> Option<usize> {
+    let wanted = Text::from_str(alloc, name).ok()?;
+    for at in 0..tree.len() {
+        if let Some(Node::Name(found, _)) = tree.node(at) {
+            if found.same(&wanted) {
+                return Some(at);
+            }
+        }
+    }
+    None
+}
+
+/// A function of these statements with these parameters.
+fn function(alloc: Global, parameters: &[&str], source: &str) -> Option<Function> {
+    let found = tokens(alloc, source)?;
+    let (tree, _end) = parse_body(alloc, &found, 0).ok()?;
+    let mut places = Vec::new(alloc);
+    for name in parameters {
+        let place = place_of(alloc, &tree, name)?;
+        places.push(place).ok()?;
+    }
+    let mark = tree.first(tree.root())?;
+    Some(Function {
+        tree,
+        parameters: places,
+        mark,
+    })
+}
+
+/// The text of an expression, with two functions.
+fn text(alloc: Global, source: &str) -> Option<OneText> {
+    let found = tokens(alloc, source)?;
+    let (tree, _end) = parse_expr(alloc, &found, 0).ok()?;
+    let first = function(alloc, &["x", "y"], "let z = x * y; return z + 1")?;
+    let second = function(alloc, &["n"], "return n")?;
+    Some(OneText::of(tree, first, second))
+}
+
+/// The processor's time so far, in nanoseconds.
+fn nanos(rt: &HostRuntime) -> io::Result<u64> {
+    let time = rt.thread_cpu_time()?;
+    Ok(u64::try_from(time.as_nanos()).unwrap_or(u64::MAX))
+}
+
+/// Evaluates a text so many times: how often it came to a value.
+fn evaluated<L: Ledger>(
+    alloc: Global,
+    code: &OneText,
+    view: &Plain,
+    count: u32,
+    steps: &mut Steps<L>,
+) -> u32 {
+    let mut rules = UnitRules::over(code);
+    let mut reads = Vec::new(alloc);
+    let mut values: u32 = 0;
+    for _ in 0..count {
+        reads.clear();
+        if let Evaluated::Value(_) = rules.eval(alloc, view, HOME, TEXT, &mut reads, steps) {
+            values = values.saturating_add(1);
+        }
+    }
+    values
+}
+
+/// Evaluates an expression, and tells how often it came to a value, and the time of one where that is asked for.
+fn tell<L: Ledger>(
+    rt: &HostRuntime,
+    source: &str,
+    count: u32,
+    timed: bool,
+    steps: &mut Steps<L>,
+) -> io::Result<()> {
+    let alloc = rt.alloc();
+    let Some(code) = text(alloc, source) else {
+        return println!(rt; "{source}: no memory");
+    };
+    let view = Plain {
+        f: Value::Bool(true),
+        a: Value::Num(Num::small(4)),
+        rows: Value::Null,
+    };
+    let begun = nanos(rt)?;
+    let values = evaluated(alloc, &code, &view, count, steps);
+    let took = nanos(rt)?.saturating_sub(begun) / u64::from(count.max(1));
+    if timed {
+        println!(rt; "{source}: {values} values, {took} nanoseconds each")
+    } else {
+        println!(rt; "{source}: {values} values")
+    }
+}
+
+fn measure<L: Ledger>(rt: &HostRuntime, count: u32, timed: bool, blank: Blank) -> io::Result<()>
+    requires name { blank.name ≡ L.name }
+    requires parts { blank.parts ≡ L.parts }
+    requires some { 0 < L.parts }
+{
+    let mut steps = Steps::<L>::new(blank);
+    for source in SOURCES {
+        tell(rt, source, count, timed, &mut steps)?;
+    }
+    Ok(())
+}
+
+fn main(rt: HostRuntime) -> io::Result<()> {
+    let timed = env::args(&rt)?.skip(1).next().is_some();
+    if timed {
+        measure::<Brand>(&rt, 1_000_000, true, Blank::new(1))
+    } else {
+        measure::<Brand>(&rt, 10, false, Blank::new(1))
+    }
+}

@@ -1,0 +1,128 @@
+//! Calls of functions, and what comes back from them.
+
+ghost use Rattle.std.specs.Prelude.{◌≡◌, ◌∷◌, [], true, false, map, IfOk};
+ghost use Rattle.js_meaning.specs.Locals.{lets_of, parameters, vars_of_all};
+ghost use Rattle.js_subset.specs.Laid.{laid, name_of, stmts_in};
+ghost use Rattle.js_subset.specs.Scopes.{scopes_of, fresh_onto, parameters_onto};
+ghost use Rattle.js_subset.specs.Standing.{standing};
+ghost use Rattle.js_subset.specs.Gathering.{row_from};
+ghost use Rattle.js_subset.specs.Stepping.{BodyBegun, Enters, Returns};
+
+use crate::code::Code;
+use crate::frames::{Before, Frame, Here, Next};
+use crate::gathering::{let_names, row_behind, var_names};
+use crate::locals::{Local, Locals, bind, declare};
+use crate::looking::threw;
+use crate::machine::Machine;
+use evaluation::Args;
+use qml_base::{Cause, ExprNo, Home, ObjNo};
+use qml_syntax::Tree;
+use qml_text::NoMemory;
+use qml_value::Value;
+use std::alloc::Global;
+use std::mem;
+
+/// The locals of a call: names of its own scope over parameters and `var`s.
+fn laid_locals(
+    alloc: Global,
+    vars: Vec<usize>,
+    lets: Vec<usize>,
+    names: &[usize],
+    values: &[Value],
+) -> Result<Locals, NoMemory>
+    ensures { IfOk result (λ ls. ls ≡ fresh_onto false lets.items (Local.Scope ∷ parameters_onto names.now values.now (fresh_onto true vars.items (Local.Scope ∷ [])))) }
+{
+    let mut locals = Locals::new(alloc);
+    locals.push(Local::Scope)?;
+    declare(&mut locals, true, vars)?;
+    bind(&mut locals, alloc, names, values)?;
+    locals.push(Local::Scope)?;
+    declare(&mut locals, false, lets)?;
+    Ok(locals)
+}
+
+/// The locals with which statements begin, from the first on: their own `let`s over parameters and `var`s.
+pub(crate) fn body_locals(
+    alloc: Global,
+    tree: &Tree,
+    names: &[usize],
+    values: &[Value],
+    first: Option<usize>,
+) -> Result<Locals, NoMemory>
+    ensures { IfOk result (λ ls. scopes_of (laid tree.now) ls ≡ lets_of (stmts_in (row_from (laid tree.now) first)) ∷ parameters (map (name_of (laid tree.now)) names.now) values.now (vars_of_all (stmts_in (row_from (laid tree.now) first)) []) ∷ []) }
+{
+    let vars = var_names(alloc, tree, first)?;
+    let lets = let_names(alloc, tree, first)?;
+    let locals = laid_locals(alloc, vars, lets, names, values)?;
+    Ok(locals)
+}
+
+/// Begins the statements of a body behind a call.
+fn begin_body(
+    machine: &mut Machine,
+    here: &mut Here,
+    calls: u32,
+    locals: Locals,
+    body: ExprNo,
+    object: ObjNo,
+    at: usize,
+) -> Result<(), NoMemory>
+    ensures { IfOk result (λ _. BodyBegun here.old here.new calls locals body object at (standing machine.old) (standing machine.new)) }
+{
+    let caller = mem::replace(&mut machine.locals, locals);
+    machine.frames.push(Frame::Call(*here, caller, at))?;
+    *here = Here {
+        home: Home {
+            unit: body.unit,
+            scope: object,
+            author: object,
+        },
+        text: body,
+        calls,
+    };
+    Ok(())
+}
+
+/// Calls a body.
+#[tactic(auto, using(crate::proofs::CallLemmas::enters_body))]
+pub(crate) fn entered<C: Code>(
+    machine: &mut Machine,
+    alloc: Global,
+    code: &C,
+    here: &mut Here,
+    body: ExprNo,
+    object: ObjNo,
+    values: Args,
+    at: usize,
+) -> Result<Next, NoMemory>
+    ensures { IfOk result (λ y. Enters (C.meaning code.now) (C.tables code.now) body object values at here.old here.new (standing machine.old) (standing machine.new) y) }
+{
+    if here.calls == 0 {
+        return Ok(threw(Cause::Depth));
+    }
+    let calls = here.calls - 1;
+    let Some(tree) = code.tree(body) else {
+        return Err(NoMemory);
+    };
+    let mark = code.statements(body);
+    let first = row_behind(tree, mark);
+    let locals = body_locals(alloc, tree, code.parameters(body), values.values(), first)?;
+    begin_body(machine, here, calls, locals, body, object, at)?;
+    Ok(Next::Rest(mark))
+}
+
+/// Goes back from a call with a value.
+pub(crate) fn returned(
+    machine: &mut Machine,
+    here: &mut Here,
+    caller: Here,
+    locals: Locals,
+    at: usize,
+    value: Value,
+) -> Next
+    ensures { Returns here.new (standing machine.old) (standing machine.new) caller locals at value result }
+{
+    *here = caller;
+    machine.locals = locals;
+    Next::Step(Before::Value(value), at)
+}

@@ -1,0 +1,103 @@
+//! What whole texts begin with.
+
+ghost use Rattle.std.specs.Prelude.{◌≡◌, ◌∷◌, [], IfOk};
+ghost use Rattle.qml_syntax.specs.Opened.{node_of};
+ghost use Rattle.js_meaning.specs.Locals.{lets_of, vars_of_all};
+ghost use Rattle.js_subset.specs.Laid.{laid, is_expr_node, stmts_in};
+ghost use Rattle.js_subset.specs.Scopes.{scopes_of};
+ghost use Rattle.js_subset.specs.Gathering.{row_from};
+ghost use Rattle.js_subset.specs.Stepping.{Starts, StartsIf, kind_of};
+
+use crate::calling::body_locals;
+use crate::frames::Next;
+use crate::locals::Locals;
+use crate::parts::{first_part, is_expression, next_part, node_at};
+use crate::gathering::row_behind;
+use evaluation::Evaluated;
+use qml_syntax::{Node, Tree};
+use qml_text::NoMemory;
+use qml_value::Value;
+use std::alloc::Global;
+
+/// What a whole text is.
+#[derive(Clone, Copy)]
+pub enum Kind {
+    /// An expression.
+    Expression,
+    /// An expression that is a statement.
+    Statement,
+    /// Another statement.
+    Other,
+    /// Statements as a body.
+    Body,
+    /// A document or a script file.
+    File,
+}
+
+/// What a whole text is.
+fn kind_of(node: &Node) -> Kind
+    ensures { result ≡ kind_of node.now }
+{
+    if is_expression(node) {
+        return Kind::Expression;
+    }
+    match node {
+        Node::Expression(_) => Kind::Statement,
+        Node::Body => Kind::Body,
+        Node::Document | Node::Script(_) => Kind::File,
+        _ => Kind::Other,
+    }
+}
+
+/// Begins the body whose node stands at a place.
+#[tactic(auto, using(crate::proofs::StartLemmas::body_starts))]
+fn start_body(alloc: Global, tree: &Tree, at: usize) -> Result<(Locals, Next), NoMemory>
+    ensures { IfOk result (λ r. StartsIf (laid tree.now) Kind.Body at r.0 r.1) }
+{
+    let Some(mark) = first_part(tree, at) else {
+        return Err(NoMemory);
+    };
+    let locals = body_locals(alloc, tree, &[], &[], row_behind(tree, mark))?;
+    Ok((locals, Next::Rest(mark)))
+}
+
+/// Begins the statement whose node stands at a place.
+#[tactic(auto, using(crate::proofs::StartLemmas::other_starts))]
+fn start_other(alloc: Global, tree: &Tree, at: usize) -> Result<(Locals, Next), NoMemory>
+    ensures { IfOk result (λ r. StartsIf (laid tree.now) Kind.Other at r.0 r.1) }
+{
+    let None = next_part(tree, at) else {
+        return Err(NoMemory);
+    };
+    let locals = body_locals(alloc, tree, &[], &[], Some(at))?;
+    Ok((locals, Next::Run(at)))
+}
+
+/// Begins the text whose node stands at a place, with the locals that it has.
+#[tactic(auto, using(crate::proofs::StartLemmas::expression_starts, crate::proofs::StartLemmas::statement_starts, crate::proofs::StartLemmas::file_starts, crate::proofs::StartLemmas::starts_as))]
+pub(crate) fn start(alloc: Global, tree: &Tree, at: usize) -> Result<(Locals, Next), NoMemory>
+    ensures { IfOk result (λ r. Starts (laid tree.now) at r.0 r.1) }
+{
+    let Some(node) = node_at(tree, at) else {
+        return Err(NoMemory);
+    };
+    match kind_of(node) {
+        Kind::Expression => Ok((Locals::new(alloc), Next::Begin(at))),
+        Kind::Statement => match first_part(tree, at) {
+            Some(inside) => Ok((Locals::new(alloc), Next::Begin(inside))),
+            None => Err(NoMemory),
+        },
+        Kind::Other => {
+            let begun = start_other(alloc, tree, at)?;
+            Ok(begun)
+        }
+        Kind::Body => {
+            let begun = start_body(alloc, tree, at)?;
+            Ok(begun)
+        }
+        Kind::File => {
+            let ended = Next::Ended(Evaluated::Value(Value::Undefined));
+            Ok((Locals::new(alloc), ended))
+        }
+    }
+}

@@ -1,0 +1,608 @@
+//! Statements that are run.
+
+ghost use Rattle.std.specs.Prelude.{◌≡◌, ◌∷◌, true, MatchOption, IfOk};
+ghost use Rattle.qml_syntax.specs.Opened.{node_of};
+ghost use Rattle.js_meaning.specs.Operate.{counts};
+ghost use Rattle.js_meaning.specs.Locals.{Held, alive, is_var, is_let, lets_of, local};
+ghost use Rattle.js_meaning.specs.Eval.{most};
+ghost use Rattle.js_subset.specs.Laid.{laid, name_of, stmts_in, is_expr_node};
+ghost use Rattle.js_subset.specs.Scopes.{scopes_of};
+ghost use Rattle.js_subset.specs.Standing.{Standing, standing};
+ghost use Rattle.js_subset.specs.Statements.{Adds, Scoped, Puts, Writes, VarSets, VarLeaves, NoValue, VarBegins, Declares, Loops, ForParts, is_present, is_var_node, ForTests, ForLoops, ForUpdates, first_scope, ForDeclares, BeginsFor, Opens, RunsWith, plain_next, Runs, is_expr_stmt, RunsCounted, RunsBy, RunsAt, Rests, WhenOn, TestOn, ForTestOn, Takes};
+
+use crate::frames::{Frame, Next};
+use crate::gathering::{first_names, let_names, row_behind};
+use crate::locals::{Local, Writable, declare, put, writable_in};
+use crate::looking::{name_of, threw};
+use crate::machine::Machine;
+use crate::parts::{first_part, is_expression, next_part, node_at};
+use crate::resuming::pushed;
+use js_operators::truth;
+use qml_base::Cause;
+use qml_syntax::{Declaration, Node, Tree};
+use qml_text::{NoMemory, Text};
+use qml_value::Value;
+use std::alloc::Global;
+
+/// One more than the rounds of any loop: each begins a node.
+pub(crate) const MOST: u32 = 100_001;
+
+/// Adds a frame and goes on.
+fn added(machine: &mut Machine, frame: Frame, next: Next) -> Result<Next, NoMemory>
+    ensures { IfOk result (λ y. Adds frame next (standing machine.old) (standing machine.new) y) }
+{
+    machine.frames.push(frame)?;
+    Ok(next)
+}
+
+// ---- names that are declared
+
+/// Gives a local another value.
+#[tactic(auto, using(crate::proofs::ScopeLemmas::put_scopes))]
+fn puts(
+    machine: &mut Machine,
+    alloc: Global,
+    tree: &Tree,
+    name: &Text,
+    writable: bool,
+    value: Value,
+    next: Next,
+) -> Result<Next, NoMemory>
+    ensures { IfOk result (λ y. Puts (laid tree.now) name.now (alive writable value) next (standing machine.old) (standing machine.new) y) }
+{
+    put(&mut machine.locals, alloc, tree, name, writable, value)?;
+    Ok(next)
+}
+
+/// Assigns to a local.
+pub(crate) fn writes(
+    machine: &mut Machine,
+    alloc: Global,
+    tree: &Tree,
+    name: &Text,
+    value: Value,
+    next: Next,
+) -> Result<Next, NoMemory>
+    ensures { IfOk result (λ y. Writes (laid tree.now) name.now value next (standing machine.old) (standing machine.new) y) }
+{
+    match writable_in(&machine.locals, tree, name)? {
+        Writable::Yes => puts(machine, alloc, tree, name, true, value, next),
+        Writable::Readonly => Ok(threw(Cause::Readonly)),
+        Writable::Nothing => Ok(threw(Cause::Name)),
+    }
+}
+
+/// Whether names are declared by `var`.
+pub(crate) fn is_var(kind: Declaration) -> bool
+    ensures { result ≡ is_var kind }
+{
+    match kind {
+        Declaration::Var => true,
+        Declaration::Let | Declaration::Const => false,
+    }
+}
+
+/// Whether names may be assigned that are declared so.
+fn is_let(kind: Declaration) -> bool
+    ensures { result ≡ is_let kind }
+{
+    match kind {
+        Declaration::Var | Declaration::Let => true,
+        Declaration::Const => false,
+    }
+}
+
+/// Declares the name at a place with a value.
+fn var_set(
+    machine: &mut Machine,
+    alloc: Global,
+    tree: &Tree,
+    kind: Declaration,
+    place: usize,
+    part: usize,
+    value: Value,
+) -> Result<Next, NoMemory>
+    ensures { IfOk result (λ y. VarSets (laid tree.now) kind (is_var kind) place part value (standing machine.old) (standing machine.new) y) }
+{
+    let name = name_of(tree, place)?;
+    let next = Next::Vars(kind, part);
+    if is_var(kind) {
+        writes(machine, alloc, tree, name, value, next)
+    } else {
+        puts(machine, alloc, tree, name, is_let(kind), value, next)
+    }
+}
+
+/// Declares the name at a place without one.
+fn var_left(
+    machine: &mut Machine,
+    alloc: Global,
+    tree: &Tree,
+    kind: Declaration,
+    place: usize,
+) -> Result<Next, NoMemory>
+    ensures { IfOk result (λ y. VarLeaves (laid tree.now) kind (is_var kind) place (standing machine.old) (standing machine.new) y) }
+{
+    let next = Next::Vars(kind, place);
+    if is_var(kind) {
+        return Ok(next);
+    }
+    let name = name_of(tree, place)?;
+    puts(machine, alloc, tree, name, is_let(kind), Value::Undefined, next)
+}
+
+/// Where the value of the name at a place stands, if it has one.
+fn value_place(tree: &Tree, place: usize) -> Result<Option<usize>, NoMemory>
+    ensures { IfOk result (λ o. MatchOption o (NoValue (laid tree.now) place) (λ q. ((laid tree.now).rest place ≡ (laid tree.now).item q ∷ (laid tree.now).rest q) × (is_expr_node (node_of ((laid tree.now).item q)) ≡ true))) }
+{
+    let Some(next) = next_part(tree, place) else {
+        return Ok(None);
+    };
+    let Some(node) = node_at(tree, next) else {
+        return Err(NoMemory);
+    };
+    if is_expression(node) {
+        Ok(Some(next))
+    } else {
+        Ok(None)
+    }
+}
+
+/// Begins the name at a place.
+fn var_begun(
+    machine: &mut Machine,
+    alloc: Global,
+    tree: &Tree,
+    kind: Declaration,
+    place: usize,
+) -> Result<Next, NoMemory>
+    ensures { IfOk result (λ y. VarBegins (laid tree.now) kind place (standing machine.old) (standing machine.new) y) }
+{
+    match value_place(tree, place)? {
+        None => var_left(machine, alloc, tree, kind, place),
+        Some(value) => pushed(machine, Frame::Var(kind, place, value), value),
+    }
+}
+
+/// Whether it is the node of a name that is declared.
+pub(crate) fn is_var_node(node: &Node) -> bool
+    ensures { result ≡ is_var_node node.now }
+{
+    match node {
+        Node::Var(_, _) => true,
+        _ => false,
+    }
+}
+
+/// Declares the names behind a place.
+pub(crate) fn declared(
+    machine: &mut Machine,
+    alloc: Global,
+    tree: &Tree,
+    kind: Declaration,
+    part: usize,
+) -> Result<Next, NoMemory>
+    ensures { IfOk result (λ y. Declares (laid tree.now) kind part (standing machine.old) (standing machine.new) y) }
+{
+    let Some(place) = next_part(tree, part) else {
+        return Ok(Next::Done);
+    };
+    let Some(node) = node_at(tree, place) else {
+        return Err(NoMemory);
+    };
+    if is_var_node(node) {
+        var_begun(machine, alloc, tree, kind, place)
+    } else {
+        Err(NoMemory)
+    }
+}
+
+// ---- loops
+
+/// Begins a round of a `while`.
+pub(crate) fn looped(machine: &mut Machine, left: u32, test: usize) -> Result<Next, NoMemory>
+    ensures { IfOk result (λ y. Loops left test (standing machine.old) (standing machine.new) y) }
+{
+    if left == 0 {
+        Ok(threw(Cause::Nodes))
+    } else {
+        pushed(machine, Frame::Test(left - 1, test), test)
+    }
+}
+
+/// Where test, update and statement stand of the `for` that begins at a place.
+pub(crate) fn for_parts(tree: &Tree, at: usize) -> Result<(usize, usize, usize), NoMemory>
+    ensures { IfOk result (λ p. ForParts (laid tree.now) at p.0 p.1 p.2) }
+{
+    let Some(test) = next_part(tree, at) else {
+        return Err(NoMemory);
+    };
+    let Some(update) = next_part(tree, test) else {
+        return Err(NoMemory);
+    };
+    let Some(body) = next_part(tree, update) else {
+        return Err(NoMemory);
+    };
+    Ok((test, update, body))
+}
+
+/// Whether it is the node of an expression that may be absent, and is there.
+fn is_present(node: &Node) -> bool
+    ensures { result ≡ is_present node.now }
+{
+    match node {
+        Node::Present => true,
+        _ => false,
+    }
+}
+
+/// Begins the test of a `for`, or its statement.
+fn for_tested(
+    machine: &mut Machine,
+    tree: &Tree,
+    left: u32,
+    at: usize,
+    test: usize,
+    body: usize,
+) -> Result<Next, NoMemory>
+    ensures { IfOk result (λ y. ForTests (laid tree.now) left at test body (is_present (node_of ((laid tree.now).item test))) (standing machine.old) (standing machine.new) y) }
+{
+    let Some(node) = node_at(tree, test) else {
+        return Err(NoMemory);
+    };
+    if is_present(node) {
+        match first_part(tree, test) {
+            Some(inside) => pushed(machine, Frame::ForTest(left, at), inside),
+            None => Err(NoMemory),
+        }
+    } else {
+        added(machine, Frame::ForRound(left, at), Next::Run(body))
+    }
+}
+
+/// Begins a round of a `for`.
+pub(crate) fn for_looped(
+    machine: &mut Machine,
+    tree: &Tree,
+    left: u32,
+    at: usize,
+) -> Result<Next, NoMemory>
+    ensures { IfOk result (λ y. ForLoops (laid tree.now) left at (standing machine.old) (standing machine.new) y) }
+{
+    if left == 0 {
+        return Ok(threw(Cause::Nodes));
+    }
+    let (test, _update, body) = for_parts(tree, at)?;
+    for_tested(machine, tree, left - 1, at, test, body)
+}
+
+/// Begins the update of a `for`, or its next round.
+pub(crate) fn for_updated(
+    machine: &mut Machine,
+    tree: &Tree,
+    left: u32,
+    at: usize,
+) -> Result<Next, NoMemory>
+    ensures { IfOk result (λ y. ForUpdates (laid tree.now) left at (standing machine.old) (standing machine.new) y) }
+{
+    let (_test, update, _body) = for_parts(tree, at)?;
+    let Some(node) = node_at(tree, update) else {
+        return Err(NoMemory);
+    };
+    if is_present(node) {
+        match first_part(tree, update) {
+            Some(inside) => pushed(machine, Frame::ForUpdate(left, at), inside),
+            None => Err(NoMemory),
+        }
+    } else {
+        for_looped(machine, tree, left, at)
+    }
+}
+
+/// Begins the first round of a `for`, in a scope of its own.
+fn for_entered(machine: &mut Machine, tree: &Tree, at: usize) -> Result<Next, NoMemory>
+    ensures { IfOk result (λ y. Takes (laid tree.now) (Frame.ForFirst at) Value.Undefined (standing machine.old) (standing machine.new) y) }
+{
+    machine.frames.push(Frame::Scope)?;
+    machine.locals.push(Local::Scope)?;
+    for_looped(machine, tree, MOST, at)
+}
+
+/// Opens the scope of a `for` that begins with names.
+#[tactic(auto, using(crate::proofs::ScopeLemmas::opened_scopes))]
+fn for_declared(
+    machine: &mut Machine,
+    alloc: Global,
+    tree: &Tree,
+    kind: Declaration,
+    at: usize,
+    mark: usize,
+) -> Result<Next, NoMemory>
+    ensures { IfOk result (λ y. ForDeclares (laid tree.now) kind at mark (standing machine.old) (standing machine.new) y) }
+{
+    let names = first_names(alloc, tree, is_var(kind), mark)?;
+    machine.frames.push(Frame::Scope)?;
+    machine.frames.push(Frame::ForStart(at))?;
+    machine.locals.push(Local::Scope)?;
+    declare(&mut machine.locals, false, names)?;
+    Ok(Next::Vars(kind, mark))
+}
+
+/// Begins a `for`.
+fn for_begun(
+    machine: &mut Machine,
+    alloc: Global,
+    tree: &Tree,
+    node: &Node,
+    at: usize,
+) -> Result<Next, NoMemory>
+    ensures { IfOk result (λ y. BeginsFor (laid tree.now) node.now at (standing machine.old) (standing machine.new) y) }
+{
+    match node {
+        Node::NoFirst => for_entered(machine, tree, at),
+        Node::FirstExpression => match first_part(tree, at) {
+            Some(inside) => pushed(machine, Frame::ForFirst(at), inside),
+            None => Err(NoMemory),
+        },
+        Node::FirstDeclare(_, kind) => {
+            if machine.left == 0 {
+                return Ok(threw(Cause::Nodes));
+            }
+            machine.left -= 1;
+            match first_part(tree, at) {
+                Some(mark) => for_declared(machine, alloc, tree, *kind, at, mark),
+                None => Err(NoMemory),
+            }
+        }
+        _ => Err(NoMemory),
+    }
+}
+
+// ---- statements
+
+/// Opens a block.
+#[tactic(auto, using(crate::proofs::ScopeLemmas::opened_scopes))]
+fn opened(
+    machine: &mut Machine,
+    alloc: Global,
+    tree: &Tree,
+    mark: usize,
+) -> Result<Next, NoMemory>
+    ensures { IfOk result (λ y. Opens (laid tree.now) mark (standing machine.old) (standing machine.new) y) }
+{
+    let names = let_names(alloc, tree, row_behind(tree, mark))?;
+    machine.frames.push(Frame::Scope)?;
+    machine.locals.push(Local::Scope)?;
+    declare(&mut machine.locals, false, names)?;
+    Ok(Next::Rest(mark))
+}
+
+/// Runs a statement whose first part stands at a place.
+fn run_with(
+    machine: &mut Machine,
+    alloc: Global,
+    tree: &Tree,
+    node: &Node,
+    first: usize,
+) -> Result<Next, NoMemory>
+    ensures { IfOk result (λ y. RunsWith (laid tree.now) node.now first (standing machine.old) (standing machine.new) y) }
+{
+    match node {
+        Node::Block(_) => opened(machine, alloc, tree, first),
+        Node::Declare(_, kind, _) => Ok(Next::Vars(*kind, first)),
+        Node::When(_) => pushed(machine, Frame::When(first), first),
+        Node::Either(_) => pushed(machine, Frame::When(first), first),
+        Node::While(_) => looped(machine, MOST, first),
+        Node::For(_) => match node_at(tree, first) {
+            Some(begin) => for_begun(machine, alloc, tree, begin, first),
+            None => Err(NoMemory),
+        },
+        Node::GiveValue(_, _) => pushed(machine, Frame::Returned, first),
+        _ => Err(NoMemory),
+    }
+}
+
+/// What comes behind a statement without parts.
+fn plain_next(node: &Node) -> Option<Next>
+    ensures { result ≡ plain_next node.now }
+{
+    match node {
+        Node::Empty(_) => Some(Next::Done),
+        Node::Give(_, _) => Some(Next::Give(Value::Undefined)),
+        Node::Stop(_, _) => Some(Next::Stop),
+        Node::Again(_, _) => Some(Next::Again),
+        _ => None,
+    }
+}
+
+/// Runs a statement that is counted already.
+fn run_node(
+    machine: &mut Machine,
+    alloc: Global,
+    tree: &Tree,
+    node: &Node,
+    at: usize,
+) -> Result<Next, NoMemory>
+    ensures { IfOk result (λ y. Runs (laid tree.now) node.now at (standing machine.old) (standing machine.new) y) }
+{
+    match plain_next(node) {
+        Some(next) => Ok(next),
+        None => match first_part(tree, at) {
+            Some(first) => run_with(machine, alloc, tree, node, first),
+            None => Err(NoMemory),
+        },
+    }
+}
+
+/// Whether a node is that of an expression that is a statement.
+pub(crate) fn is_expression_statement(node: &Node) -> bool
+    ensures { result ≡ is_expr_stmt node.now }
+{
+    match node {
+        Node::Expression(_) => true,
+        _ => false,
+    }
+}
+
+/// Runs a statement that counts one.
+fn run_counted(
+    machine: &mut Machine,
+    alloc: Global,
+    tree: &Tree,
+    node: &Node,
+    at: usize,
+) -> Result<Next, NoMemory>
+    ensures { IfOk result (λ y. RunsCounted (laid tree.now) node.now at (standing machine.old) (standing machine.new) y) }
+{
+    if machine.left == 0 {
+        return Ok(threw(Cause::Nodes));
+    }
+    machine.left -= 1;
+    run_node(machine, alloc, tree, node, at)
+}
+
+/// Runs an expression that is a statement.
+fn run_expression(machine: &mut Machine, tree: &Tree, at: usize) -> Result<Next, NoMemory>
+    ensures { IfOk result (λ y. RunsBy (laid tree.now) true at (standing machine.old) (standing machine.new) y) }
+{
+    match first_part(tree, at) {
+        Some(first) => pushed(machine, Frame::Dropped, first),
+        None => Err(NoMemory),
+    }
+}
+
+/// Runs the statement at a place, of which each but an expression counts one.
+pub(crate) fn run_at(
+    machine: &mut Machine,
+    alloc: Global,
+    tree: &Tree,
+    at: usize,
+) -> Result<Next, NoMemory>
+    ensures { IfOk result (λ y. RunsAt (laid tree.now) at (standing machine.old) (standing machine.new) y) }
+{
+    let Some(node) = node_at(tree, at) else {
+        return Err(NoMemory);
+    };
+    if is_expression_statement(node) {
+        run_expression(machine, tree, at)
+    } else {
+        run_counted(machine, alloc, tree, node, at)
+    }
+}
+
+/// Runs the statements behind a place.
+pub(crate) fn rested(machine: &mut Machine, tree: &Tree, part: usize) -> Result<Next, NoMemory>
+    ensures { IfOk result (λ y. Rests (laid tree.now) part (standing machine.old) (standing machine.new) y) }
+{
+    match next_part(tree, part) {
+        None => Ok(Next::Done),
+        Some(next) => added(machine, Frame::Row(next), Next::Run(next)),
+    }
+}
+
+// ---- behind a value that a statement awaits
+
+/// Goes on behind the condition of an `if`.
+fn when_on(machine: &Machine, tree: &Tree, holds: bool, test: usize) -> Result<Next, NoMemory>
+    ensures { IfOk result (λ y. WhenOn (laid tree.now) holds test (standing machine.now) (standing machine.now) y) }
+{
+    let Some(then) = next_part(tree, test) else {
+        return Err(NoMemory);
+    };
+    if holds {
+        return Ok(Next::Run(then));
+    }
+    match next_part(tree, then) {
+        None => Ok(Next::Done),
+        Some(other) => Ok(Next::Run(other)),
+    }
+}
+
+/// Goes on behind the condition of a `while`.
+fn test_on(
+    machine: &mut Machine,
+    tree: &Tree,
+    holds: bool,
+    left: u32,
+    test: usize,
+) -> Result<Next, NoMemory>
+    ensures { IfOk result (λ y. TestOn (laid tree.now) holds left test (standing machine.old) (standing machine.new) y) }
+{
+    if !holds {
+        return Ok(Next::Done);
+    }
+    match next_part(tree, test) {
+        Some(body) => added(machine, Frame::Round(left, test), Next::Run(body)),
+        None => Err(NoMemory),
+    }
+}
+
+/// Goes on behind the test of a `for`.
+fn for_test_on(
+    machine: &mut Machine,
+    tree: &Tree,
+    holds: bool,
+    left: u32,
+    at: usize,
+) -> Result<Next, NoMemory>
+    ensures { IfOk result (λ y. ForTestOn (laid tree.now) holds left at (standing machine.old) (standing machine.new) y) }
+{
+    if !holds {
+        return Ok(Next::Done);
+    }
+    let (_test, _update, body) = for_parts(tree, at)?;
+    added(machine, Frame::ForRound(left, at), Next::Run(body))
+}
+
+/// Goes on with the value that a statement awaits.
+pub(crate) fn taken(
+    machine: &mut Machine,
+    alloc: Global,
+    tree: &Tree,
+    frame: Frame,
+    value: Value,
+) -> Result<Next, NoMemory>
+    ensures { IfOk result (λ y. Takes (laid tree.now) frame value (standing machine.old) (standing machine.new) y) }
+{
+    match frame {
+        Frame::Dropped => Ok(Next::Done),
+        Frame::When(test) => {
+            let next = when_on(machine, tree, truth(&value), test)?;
+            Ok(next)
+        }
+        Frame::Test(left, test) => {
+            let next = test_on(machine, tree, truth(&value), left, test)?;
+            Ok(next)
+        }
+        Frame::ForFirst(at) => {
+            let next = for_entered(machine, tree, at)?;
+            Ok(next)
+        }
+        Frame::ForTest(left, at) => {
+            let next = for_test_on(machine, tree, truth(&value), left, at)?;
+            Ok(next)
+        }
+        Frame::ForUpdate(left, at) => {
+            let next = for_looped(machine, tree, left, at)?;
+            Ok(next)
+        }
+        Frame::Returned => Ok(Next::Give(value)),
+        Frame::Var(kind, place, part) => {
+            let next = var_set(machine, alloc, tree, kind, place, part, value)?;
+            Ok(next)
+        }
+        Frame::Chain(_, _, _)
+        | Frame::Right(_, _, _, _, _)
+        | Frame::Choose(_, _)
+        | Frame::Sign(_)
+        | Frame::First(_)
+        | Frame::Index(_, _)
+        | Frame::All(_, _, _)
+        | Frame::Row(_)
+        | Frame::Scope
+        | Frame::Round(_, _)
+        | Frame::ForStart(_)
+        | Frame::ForRound(_, _)
+        | Frame::Call(_, _, _) => Err(NoMemory),
+    }
+}

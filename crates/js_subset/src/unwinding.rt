@@ -1,0 +1,133 @@
+//! What goes on behind a statement, and behind `return`, `break` and `continue`.
+
+ghost use Rattle.std.specs.Prelude.{◌≡◌, ◌∷◌, IfOk};
+ghost use Rattle.js_meaning.specs.Eval.{most};
+ghost use Rattle.js_subset.specs.Laid.{laid};
+ghost use Rattle.js_subset.specs.Standing.{standing};
+ghost use Rattle.js_subset.specs.Statements.{Leaves, GoesOn, Gives, Stops, GoesAgain};
+
+use crate::frames::{Frame, Next};
+use crate::locals::leave;
+use crate::machine::Machine;
+use crate::statements::{MOST, for_looped, for_updated, looped};
+use qml_syntax::Tree;
+use qml_text::NoMemory;
+use qml_value::Value;
+
+/// Leaves the innermost scope.
+#[tactic(auto, using(crate::proofs::ScopeLemmas::left_scopes))]
+fn left(machine: &mut Machine, tree: &Tree, next: Next) -> Next
+    ensures { Leaves (laid tree.now) next (standing machine.old) (standing machine.new) result }
+{
+    let _root = tree.root();
+    leave(&mut machine.locals);
+    next
+}
+
+/// Goes on behind a statement.
+pub(crate) fn goes_on(machine: &mut Machine, tree: &Tree, frame: Frame) -> Result<Next, NoMemory>
+    ensures { IfOk result (λ y. GoesOn (laid tree.now) frame (standing machine.old) (standing machine.new) y) }
+{
+    match frame {
+        Frame::Row(part) => Ok(Next::Rest(part)),
+        Frame::Scope => Ok(left(machine, tree, Next::Done)),
+        Frame::Round(rounds, test) => {
+            let next = looped(machine, rounds, test)?;
+            Ok(next)
+        }
+        Frame::ForStart(at) => {
+            let next = for_looped(machine, tree, MOST, at)?;
+            Ok(next)
+        }
+        Frame::ForRound(rounds, at) => {
+            let next = for_updated(machine, tree, rounds, at)?;
+            Ok(next)
+        }
+        Frame::Chain(_, _, _)
+        | Frame::Right(_, _, _, _, _)
+        | Frame::Choose(_, _)
+        | Frame::Sign(_)
+        | Frame::First(_)
+        | Frame::Index(_, _)
+        | Frame::All(_, _, _)
+        | Frame::Dropped
+        | Frame::When(_)
+        | Frame::Test(_, _)
+        | Frame::ForFirst(_)
+        | Frame::ForTest(_, _)
+        | Frame::ForUpdate(_, _)
+        | Frame::Returned
+        | Frame::Var(_, _, _)
+        | Frame::Call(_, _, _) => Err(NoMemory),
+    }
+}
+
+/// Goes on behind a `return` with this value.
+pub(crate) fn gives(
+    machine: &mut Machine,
+    tree: &Tree,
+    frame: Frame,
+    value: Value,
+) -> Result<Next, NoMemory>
+    ensures { IfOk result (λ y. Gives (laid tree.now) frame value (standing machine.old) (standing machine.new) y) }
+{
+    match frame {
+        Frame::Row(_) => Ok(Next::Give(value)),
+        Frame::Scope => Ok(left(machine, tree, Next::Give(value))),
+        Frame::Round(_, _) => Ok(Next::Give(value)),
+        Frame::ForRound(_, _) => Ok(Next::Give(value)),
+        _ => Err(NoMemory),
+    }
+}
+
+/// Goes on behind a `break`.
+pub(crate) fn stops(machine: &mut Machine, tree: &Tree, frame: Frame) -> Result<Next, NoMemory>
+    ensures { IfOk result (λ y. Stops (laid tree.now) frame (standing machine.old) (standing machine.new) y) }
+{
+    match frame {
+        Frame::Row(_) => Ok(Next::Stop),
+        Frame::Scope => Ok(left(machine, tree, Next::Stop)),
+        Frame::Round(_, _) => Ok(Next::Done),
+        Frame::ForRound(_, _) => Ok(Next::Done),
+        _ => Err(NoMemory),
+    }
+}
+
+/// Goes on behind a `continue`.
+pub(crate) fn goes_again(
+    machine: &mut Machine,
+    tree: &Tree,
+    frame: Frame,
+) -> Result<Next, NoMemory>
+    ensures { IfOk result (λ y. GoesAgain (laid tree.now) frame (standing machine.old) (standing machine.new) y) }
+{
+    match frame {
+        Frame::Row(_) => Ok(Next::Again),
+        Frame::Scope => Ok(left(machine, tree, Next::Again)),
+        Frame::Round(rounds, test) => {
+            let next = looped(machine, rounds, test)?;
+            Ok(next)
+        }
+        Frame::ForRound(rounds, at) => {
+            let next = for_updated(machine, tree, rounds, at)?;
+            Ok(next)
+        }
+        Frame::Chain(_, _, _)
+        | Frame::Right(_, _, _, _, _)
+        | Frame::Choose(_, _)
+        | Frame::Sign(_)
+        | Frame::First(_)
+        | Frame::Index(_, _)
+        | Frame::All(_, _, _)
+        | Frame::Dropped
+        | Frame::When(_)
+        | Frame::Test(_, _)
+        | Frame::ForFirst(_)
+        | Frame::ForTest(_, _)
+        | Frame::ForUpdate(_, _)
+        | Frame::Returned
+        | Frame::Var(_, _, _)
+        | Frame::ForStart(_)
+        | Frame::Call(_, _, _) => Err(NoMemory),
+    }
+}
