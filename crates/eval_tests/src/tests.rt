@@ -252,7 +252,11 @@ fn with_functions(alloc: Global, tree: Tree) -> Result<OneText, Fail> {
         &["x", "y"],
         "if (x === 'nest') { if (y < 1) return y; return [first(x, y - 1)] } if (y) { let z = x * y; return z + 1 } return typeof y",
     )?;
-    let second = function(alloc, &["n"], "if (n < 1) return a; return second(n - 1) + 1")?;
+    let second = function(
+        alloc,
+        &["n"],
+        "if (n < 1) return a; return second(n - 1) + 1",
+    )?;
     Ok(OneText::of(tree, first, second))
 }
 
@@ -383,7 +387,10 @@ const BODIES: [(&str, &str); 34] = [
     ("while (f) return 4", "4 reads f"),
     ("while (f) { let x = 1; break } return 6", "6 reads f"),
     ("while (true) {}", "Threw Nodes"),
-    ("for (;;) { if (f) break; else continue } return 7", "7 reads f"),
+    (
+        "for (;;) { if (f) break; else continue } return 7",
+        "7 reads f",
+    ),
     ("for (let x = 1; x < 1; ) return 1; return 8", "8"),
     ("for (var x = 5; ; ) return x", "5"),
     ("for (let x = 5; false; ) {} return x", "Threw Name"),

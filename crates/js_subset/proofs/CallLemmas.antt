@@ -54,21 +54,23 @@ body_run code tables a h e o q old ss xs =
 
 pub enters_at : (w : World) (code : Code) (tables : ExprNo → Table) (h g : Here) (e : ExprNo) (o : ObjNo) (vs : List Value) (q : ℕ) (old new : Standing) (y : Next)
     → Enters code tables e o vs q h g old new y → Goes w code tables h g old (next.Enter e o vs q) new y
-enters_at w code tables h g e o vs q old new y b = record { same = λ a. elim b [
-  | inl l ↦ ap (λ z. told_at w code tables a z new y) l.1
-      ∙ threw_on w (laid (tables h.text)) (where_of code tables a h) cause.Depth old new y l.2
-      ∙ ap (λ z. on w old z) (sym (no_call code a h.calls e o vs old.left (λ v n. steps_then (laid (tables h.text)) (around_at (where_of code tables a h)) (a_value v) q (state (scopes_of (laid (tables h.text)) old.locals) n) (then_of (laid (tables h.text)) (where_of code tables a h) old.frames)) l.0))
-  | inr r ↦
-      (let ls : List Local = (r.1).0 in
-      let there : Here = body_here e o (h.calls - 1) in
-      let begun : Standing = with_locals ls (with_frame (frame.Call h old.locals q) old) in
-      ap (λ z. told_at w code tables a z new y) ((r.1).4).0
-      ∙ ap (λ z. told_at w code tables a there z y) ((r.1).4).1
-      ∙ ap (λ z. told_at w code tables a there begun z) (r.1).5
-      ∙ ap (λ ss. on w old (body_run code tables a h e o q old ss (scopes_of (laid (tables e)) ls))) (r.1).3
-      ∙ ap (λ xs. on w old (body_run code tables a h e o q old (code.function e).statements xs)) (r.1).2
-      ∙ ap (λ n. on w old (called_from code tables a h e o vs q old n)) (positive h.calls r.0))
-] }
+enters_at w code tables h g e o vs q old new y b = record {
+  same = λ a. elim b [
+    | inl l ↦ ap (λ z. told_at w code tables a z new y) l.1
+        ∙ threw_on w (laid (tables h.text)) (where_of code tables a h) cause.Depth old new y l.2
+        ∙ ap (λ z. on w old z) (sym (no_call code a h.calls e o vs old.left (λ v n. steps_then (laid (tables h.text)) (around_at (where_of code tables a h)) (a_value v) q (state (scopes_of (laid (tables h.text)) old.locals) n) (then_of (laid (tables h.text)) (where_of code tables a h) old.frames)) l.0))
+    | inr r ↦
+        (let ls : List Local = (r.1).0 in
+        let there : Here = body_here e o (h.calls - 1) in
+        let begun : Standing = with_locals ls (with_frame (frame.Call h old.locals q) old) in
+        ap (λ z. told_at w code tables a z new y) ((r.1).4).0
+        ∙ ap (λ z. told_at w code tables a there z y) ((r.1).4).1
+        ∙ ap (λ z. told_at w code tables a there begun z) (r.1).5
+        ∙ ap (λ ss. on w old (body_run code tables a h e o q old ss (scopes_of (laid (tables e)) ls))) (r.1).3
+        ∙ ap (λ xs. on w old (body_run code tables a h e o q old (code.function e).statements xs)) (r.1).2
+        ∙ ap (λ n. on w old (called_from code tables a h e o vs q old n)) (positive h.calls r.0))
+  ];
+}
 
 -- ---- back from calls
 
@@ -77,16 +79,18 @@ unwinds_at : (w : World) (code : Code) (tables : ExprNo → Table) (h g : Here) 
     → ((a : ObjNo) (k : Here) (ls : List Local) (q : ℕ) (fs : List Frame) → told_at w code tables a k (with_locals ls (with_frames fs old)) (next.Step (stands.Value v) q) ≡ told_at w code tables a h (with_frames (frame.Call k ls q ∷ fs) old) z)
     → ((a : ObjNo) → told_at w code tables a h old (next.Ended (answer.Value v)) ≡ told_at w code tables a h (with_frames [] old) z)
     → Unwinds goes v h g old new y → Goes w code tables h g old z new y
-unwinds_at w code tables h g z v goes old new y law back end b = record { same = λ a. elim b [
-  | inl l ↦ ap (λ k. told_at w code tables a k new y) l.1 ∙ ap (λ m. told_at w code tables a h m y) (l.2).0 ∙ ap (λ u. told_at w code tables a h old u) (l.2).1
-      ∙ end a ∙ ap (λ fs. told_at w code tables a h (with_frames fs old) z) (sym l.0)
-  | inr s ↦ elim s [
-    | inl r ↦ ap (λ k. told_at w code tables a k new y) (r.5).0 ∙ ap (λ m. told_at w code tables a r.0 m y) (r.5).1
-        ∙ ap (λ u. told_at w code tables a r.0 (with_locals r.1 (with_frames r.3 old)) u) (r.5).2
-        ∙ back a r.0 r.1 r.2 r.3 ∙ ap (λ fs. told_at w code tables a h (with_frames fs old) z) (sym r.4)
-    | inr r ↦ ap (λ k. told_at w code tables a k new y) r.3 ∙ law a r.0 (with_frames r.1 old) new y r.4 ∙ ap (λ fs. told_at w code tables a h (with_frames fs old) z) (sym r.2)
-  ]
-] }
+unwinds_at w code tables h g z v goes old new y law back end b = record {
+  same = λ a. elim b [
+    | inl l ↦ ap (λ k. told_at w code tables a k new y) l.1 ∙ ap (λ m. told_at w code tables a h m y) (l.2).0 ∙ ap (λ u. told_at w code tables a h old u) (l.2).1
+        ∙ end a ∙ ap (λ fs. told_at w code tables a h (with_frames fs old) z) (sym l.0)
+    | inr s ↦ elim s [
+      | inl r ↦ ap (λ k. told_at w code tables a k new y) (r.5).0 ∙ ap (λ m. told_at w code tables a r.0 m y) (r.5).1
+          ∙ ap (λ u. told_at w code tables a r.0 (with_locals r.1 (with_frames r.3 old)) u) (r.5).2
+          ∙ back a r.0 r.1 r.2 r.3 ∙ ap (λ fs. told_at w code tables a h (with_frames fs old) z) (sym r.4)
+      | inr r ↦ ap (λ k. told_at w code tables a k new y) r.3 ∙ law a r.0 (with_frames r.1 old) new y r.4 ∙ ap (λ fs. told_at w code tables a h (with_frames fs old) z) (sym r.2)
+    ]
+  ];
+}
 
 pub done_at : (w : World) (code : Code) (tables : ExprNo → Table) (h g : Here) (t : Table) (old new : Standing) (y : Next)
     → t ≡ tables h.text → Unwinds (GoesOn (laid t)) Undefined h g old new y → Goes w code tables h g old next.Done new y

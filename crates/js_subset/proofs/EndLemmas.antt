@@ -59,6 +59,10 @@ vars_at w c h k p old new y s = λ x e. declares_on w c x k p old new y s
 pub stays_at : (w : World) (c : Laid) (h : Home) (old : Standing) (y : Next) → GoesAt w c h old y old y
 stays_at w c h old y = λ x e. refl
 
+-- a move by what is next, where this is known by another name
+pub of_next : (w : World) (c : Laid) (h : Home) (old new : Standing) (z x y : Next) → z ≡ x → GoesAt w c h old x new y → GoesAt w c h old z new y
+of_next w c h old new z x y e g = let P : Next → Type 0 = λ n. GoesAt w c h old n new y in subst P (sym e) g
+
 pub resumes_at : (w : World) (c : Laid) (h : Home) (f : Frame) (v : Value) (old new : Standing) (y : Next) → Resumes w c f v old new y → GoesAt w c h (with_frame f old) (next.Back v) new y
 resumes_at w c h f v old new y s = λ x e. resumed_on w c x f v old new y s
 

@@ -108,7 +108,8 @@ holds_inside : (c : Laid) (b : 𝔹) (at : ℕ) (p : Option ℕ) (names : List �
 holds_inside c b at p names d e h =
     record {
       named = λ rest. ap (λ z. fresh_slots c b names z) (h.named rest ∙ ap (λ i. names_of b (top_stmt (i ∷ [])) rest) (sym e));
-      sized = subst (λ (i : Item). size_of_all (stmts_in (row_from c p)) < size_of (top_stmt (i ∷ []))) (sym e) h.sized }
+      sized = subst (λ (i : Item). size_of_all (stmts_in (row_from c p)) < size_of (top_stmt (i ∷ []))) (sym e) h.sized;
+    }
 
 block_holds : (ss : Stmts) (p : _) → Holds true (block p ss) ss
 block_holds ss p = record { named = λ rest. all_names ss rest; sized = omega arith }
@@ -158,9 +159,11 @@ block_by c at q p names (stop r z) e g f h = absurd (cc)
 block_by c at q p names (again r z) e g f h = absurd (cc)
 
 pub block_inside : (c : Laid) (at q : ℕ) (p : Option ℕ) → parts_of (c.item at) ≡ c.item q ∷ c.rest q → row_from c p ≡ c.rest q → HoldsRow c inside.Block true at p
-block_inside c at q p f h = record { holds = λ k names.
-    let r : (d : Stmt) × (c.item at ≡ of_stmt d) = stmt_of c at inside.Block k (λ z. cc) in
-    block_by c at q p names r.0 r.1 (ap (λ i. inner_of (node_of i)) (sym r.1) ∙ k) f h }
+block_inside c at q p f h = record {
+  holds = λ k names.
+      let r : (d : Stmt) × (c.item at ≡ of_stmt d) = stmt_of c at inside.Block k (λ z. cc) in
+      block_by c at q p names r.0 r.1 (ap (λ i. inner_of (node_of i)) (sym r.1) ∙ k) f h;
+}
 
 shallow_by : (c : Laid) (at : ℕ) (names : List ℕ) (d : Stmt) → c.item at ≡ of_stmt d → inner_of (node_of (of_stmt d)) ≡ inside.Block → Inside c false at names names None
 shallow_by c at names (block r ss) e g = holds_inside c false at None names (block r ss) e (block_none ss r)
@@ -177,9 +180,11 @@ shallow_by c at names (stop r z) e g = absurd (cc)
 shallow_by c at names (again r z) e g = absurd (cc)
 
 pub shallow_inside : (c : Laid) (at : ℕ) → HoldsRow c inside.Block false at None
-shallow_inside c at = record { holds = λ k names.
-    let r : (d : Stmt) × (c.item at ≡ of_stmt d) = stmt_of c at inside.Block k (λ z. cc) in
-    shallow_by c at names r.0 r.1 (ap (λ i. inner_of (node_of i)) (sym r.1) ∙ k) }
+shallow_inside c at = record {
+  holds = λ k names.
+      let r : (d : Stmt) × (c.item at ≡ of_stmt d) = stmt_of c at inside.Block k (λ z. cc) in
+      shallow_by c at names r.0 r.1 (ap (λ i. inner_of (node_of i)) (sym r.1) ∙ k);
+}
 
 condition_by : (c : Laid) (b : 𝔹) (at q : ℕ) (p : Option ℕ) (names : List ℕ) (d : Stmt) → c.item at ≡ of_stmt d → inner_of (node_of (of_stmt d)) ≡ inside.Condition
     → parts_of (c.item at) ≡ c.item q ∷ c.rest q → row_from c p ≡ c.rest q → Inside c b at names names p
@@ -206,9 +211,11 @@ condition_by c b at q p names (stop r z) e k f h = absurd (cc)
 condition_by c b at q p names (again r z) e k f h = absurd (cc)
 
 pub condition_inside : (c : Laid) (b : 𝔹) (at q : ℕ) (p : Option ℕ) → parts_of (c.item at) ≡ c.item q ∷ c.rest q → row_from c p ≡ c.rest q → HoldsRow c inside.Condition b at p
-condition_inside c b at q p f h = record { holds = λ k names.
-    let r : (d : Stmt) × (c.item at ≡ of_stmt d) = stmt_of c at inside.Condition k (λ z. cc) in
-    condition_by c b at q p names r.0 r.1 (ap (λ i. inner_of (node_of i)) (sym r.1) ∙ k) f h }
+condition_inside c b at q p f h = record {
+  holds = λ k names.
+      let r : (d : Stmt) × (c.item at ≡ of_stmt d) = stmt_of c at inside.Condition k (λ z. cc) in
+      condition_by c b at q p names r.0 r.1 (ap (λ i. inner_of (node_of i)) (sym r.1) ∙ k) f h;
+}
 
 -- ---- declarations
 
@@ -258,23 +265,29 @@ asks_yes false true h = absurd (cc)
 asks_yes false false h = refl
 
 pub names_not_asked : (c : Laid) (b : 𝔹) (k : Declaration) (at : ℕ) (names : List ℕ) → asks_for b k ≡ false → HoldsNames c (inside.Names k) b at names names None
-names_not_asked c b k at names q = record { holds = λ h.
-    let g : is_var k ≡ b → ⊥ = asks_no b (is_var k) q in
-    let d : (r : _) × (vs : Vars) × (z : _) × (c.item at ≡ of_stmt (declare r k vs z)) = declaration c at k h in
-    record {
-      named = λ rest. ap (λ y. fresh_slots c b names y) (sym (names_skipped b (is_var k) d.0 k d.1 d.2 rest refl g) ∙ ap (λ i. names_of b (top_stmt (i ∷ [])) rest) (sym d.3));
-      sized = subst (λ (i : Item). 0 < size_of (top_stmt (i ∷ []))) (sym d.3) (omega arith) } }
+names_not_asked c b k at names q = record {
+  holds = λ h.
+      let g : is_var k ≡ b → ⊥ = asks_no b (is_var k) q in
+      let d : (r : _) × (vs : Vars) × (z : _) × (c.item at ≡ of_stmt (declare r k vs z)) = declaration c at k h in
+      record {
+        named = λ rest. ap (λ y. fresh_slots c b names y) (sym (names_skipped b (is_var k) d.0 k d.1 d.2 rest refl g) ∙ ap (λ i. names_of b (top_stmt (i ∷ [])) rest) (sym d.3));
+        sized = subst (λ (i : Item). 0 < size_of (top_stmt (i ∷ []))) (sym d.3) (omega arith);
+      };
+}
 
 pub names_asked : (c : Laid) (b : 𝔹) (k : Declaration) (at q : ℕ) (old new : List ℕ) → asks_for b k ≡ true → parts_of (c.item at) ≡ c.item q ∷ c.rest q → NamesAdded c b q old new
     → HoldsNames c (inside.Names k) b at old new None
-names_asked c b k at q old new m f a = record { holds = λ h.
-    let g : is_var k ≡ b = asks_yes b (is_var k) m in
-    let d : (r : _) × (vs : Vars) × (z : _) × (c.item at ≡ of_stmt (declare r k vs z)) = declaration c at k h in
-    let re : c.rest q ≡ vars_parts d.1 = rest_behind c at q (of_stmt (declare d.0 k d.1 d.2)) (vars_parts d.1) mark d.3 refl f in
-    record {
-      named = λ rest. a.added rest ∙ ap (λ is. fresh_slots c b old (names_in b is rest)) re
-      ∙ ap (λ y. fresh_slots c b old y) (names_taken b d.0 k d.1 d.2 rest g ∙ ap (λ i. names_of b (top_stmt (i ∷ [])) rest) (sym d.3));
-      sized = subst (λ (i : Item). 0 < size_of (top_stmt (i ∷ []))) (sym d.3) (omega arith) } }
+names_asked c b k at q old new m f a = record {
+  holds = λ h.
+      let g : is_var k ≡ b = asks_yes b (is_var k) m in
+      let d : (r : _) × (vs : Vars) × (z : _) × (c.item at ≡ of_stmt (declare r k vs z)) = declaration c at k h in
+      let re : c.rest q ≡ vars_parts d.1 = rest_behind c at q (of_stmt (declare d.0 k d.1 d.2)) (vars_parts d.1) mark d.3 refl f in
+      record {
+        named = λ rest. a.added rest ∙ ap (λ is. fresh_slots c b old (names_in b is rest)) re
+            ∙ ap (λ y. fresh_slots c b old y) (names_taken b d.0 k d.1 d.2 rest g ∙ ap (λ i. names_of b (top_stmt (i ∷ [])) rest) (sym d.3));
+        sized = subst (λ (i : Item). 0 < size_of (top_stmt (i ∷ []))) (sym d.3) (omega arith);
+      };
+}
 
 -- ---- a `for`
 
@@ -329,12 +342,14 @@ first_item n i e h = first_alone i (ap (λ z. starts_declared z) (sym (made_of n
 
 pub first_asked : (c : Laid) (at q : ℕ) (n : Node) (old new : List ℕ) → n ≡ node_of (c.item at) → is_var_first n ≡ true → parts_of (c.item at) ≡ c.item q ∷ c.rest q → NamesAdded c true q old new
     → FirstAdded c at old new
-first_asked c at q n old new e h f a = record { added = λ rest.
-    let i : (p : _) × (k : Declaration) × (vs : Vars) × (c.item at ≡ of_first (first_declare p k vs)) = first_item n (c.item at) e h in
-    let v : is_var i.1 ≡ true = sym (ap (λ z. is_var_first z) e ∙ ap (λ j. is_var_first (node_of j)) i.3) ∙ h in
-    a.added rest ∙ ap (λ is. fresh_slots c true old (names_in true is rest)) (rest_behind c at q (of_first (first_declare i.0 i.1 i.2)) (vars_parts i.2) mark i.3 refl f)
-    ∙ ap (λ y. fresh_slots c true old y)
-    (names_undefined i.2 rest ∙ sym (ap (λ (y : 𝔹). cond y (undefined_of i.2 rest) rest) v) ∙ ap (λ j. vars_of_first (top_first (j ∷ [])) rest) (sym i.3)) }
+first_asked c at q n old new e h f a = record {
+  added = λ rest.
+      let i : (p : _) × (k : Declaration) × (vs : Vars) × (c.item at ≡ of_first (first_declare p k vs)) = first_item n (c.item at) e h in
+      let v : is_var i.1 ≡ true = sym (ap (λ z. is_var_first z) e ∙ ap (λ j. is_var_first (node_of j)) i.3) ∙ h in
+      a.added rest ∙ ap (λ is. fresh_slots c true old (names_in true is rest)) (rest_behind c at q (of_first (first_declare i.0 i.1 i.2)) (vars_parts i.2) mark i.3 refl f)
+      ∙ ap (λ y. fresh_slots c true old y)
+      (names_undefined i.2 rest ∙ sym (ap (λ (y : 𝔹). cond y (undefined_of i.2 rest) rest) v) ∙ ap (λ j. vars_of_first (top_first (j ∷ [])) rest) (sym i.3));
+}
 
 -- where the statement of a `for` stands
 for_row : (c : Laid) (at q t u d : ℕ) (p : Option ℕ) (r : _) (i : First) (e f : Maybe) (s : Stmt) → c.item at ≡ of_stmt (for r i e f s)
@@ -355,11 +370,12 @@ for_inside_deep c at q t u d p old new fp k h a n =
     let row : stmts_in (row_from c p) ≡ a_stmt z.4 no_stmts = for_row c at q t u d p z.0 z.1 z.2 z.3 z.4 z.5 fp k h in
     let qe : c.item q ≡ of_first z.1 = for_first c at q z.0 z.1 z.2 z.3 z.4 z.5 fp in
     record {
-    named = λ rest. ap (λ ss. fresh_slots c true new (names_of_all true ss rest)) row ∙ a.added (vars_of z.4 rest)
-    ∙ ap (λ j. fresh_slots c true old (vars_of_first (top_first (j ∷ [])) (vars_of z.4 rest))) qe
-    ∙ ap (λ j. fresh_slots c true old (names_of true (top_stmt (j ∷ [])) rest)) (sym z.5);
-    sized = subst (λ (ss : Stmts). size_of_all ss < size_of (top_stmt (c.item at ∷ []))) (sym row)
-    (subst (λ (j : Item). size_of_all (a_stmt z.4 no_stmts) < size_of (top_stmt (j ∷ []))) (sym z.5) (omega arith)) }
+      named = λ rest. ap (λ ss. fresh_slots c true new (names_of_all true ss rest)) row ∙ a.added (vars_of z.4 rest)
+          ∙ ap (λ j. fresh_slots c true old (vars_of_first (top_first (j ∷ [])) (vars_of z.4 rest))) qe
+          ∙ ap (λ j. fresh_slots c true old (names_of true (top_stmt (j ∷ [])) rest)) (sym z.5);
+      sized = subst (λ (ss : Stmts). size_of_all ss < size_of (top_stmt (c.item at ∷ []))) (sym row)
+          (subst (λ (j : Item). size_of_all (a_stmt z.4 no_stmts) < size_of (top_stmt (j ∷ []))) (sym z.5) (omega arith));
+    }
 
 pub for_inside : (c : Laid) (at q t u d : ℕ) (p : Option ℕ) (names : List ℕ) → parts_of (c.item at) ≡ c.item q ∷ c.rest q → ForParts c q t u d → row_from c p ≡ c.rest u
     → inner_of (node_of (c.item at)) ≡ inside.For → Inside c false at names names p
@@ -367,9 +383,10 @@ for_inside c at q t u d p names fp k h n =
     let z : (r : _) × (i : First) × (e : Maybe) × (f : Maybe) × (s : Stmt) × (c.item at ≡ of_stmt (for r i e f s)) = for_parts_of c at n in
     let row : stmts_in (row_from c p) ≡ a_stmt z.4 no_stmts = for_row c at q t u d p z.0 z.1 z.2 z.3 z.4 z.5 fp k h in
     record {
-    named = λ rest. ap (λ ss. fresh_slots c false names (names_of_all false ss rest)) row ∙ ap (λ j. fresh_slots c false names (names_of false (top_stmt (j ∷ [])) rest)) (sym z.5);
-    sized = subst (λ (ss : Stmts). size_of_all ss < size_of (top_stmt (c.item at ∷ []))) (sym row)
-    (subst (λ (j : Item). size_of_all (a_stmt z.4 no_stmts) < size_of (top_stmt (j ∷ []))) (sym z.5) (omega arith)) }
+      named = λ rest. ap (λ ss. fresh_slots c false names (names_of_all false ss rest)) row ∙ ap (λ j. fresh_slots c false names (names_of false (top_stmt (j ∷ [])) rest)) (sym z.5);
+      sized = subst (λ (ss : Stmts). size_of_all ss < size_of (top_stmt (c.item at ∷ []))) (sym row)
+          (subst (λ (j : Item). size_of_all (a_stmt z.4 no_stmts) < size_of (top_stmt (j ∷ []))) (sym z.5) (omega arith));
+    }
 
 -- ---- nothing inside
 
@@ -413,7 +430,8 @@ pub nothing_inside : (c : Laid) (b : 𝔹) (at : ℕ) (n : Node) (names : List �
 nothing_inside c b at n names e h =
     record {
       named = λ rest. ap (λ y. fresh_slots c b names y) (sym (nothing_item b (c.item at) rest (sym (ap (λ z. inner_of z) e) ∙ h)));
-      sized = size_positive (top_stmt (c.item at ∷ [])) }
+      sized = size_positive (top_stmt (c.item at ∷ []));
+    }
 
 -- ---- rows that are still to be walked
 
@@ -433,9 +451,10 @@ walks c b at behind inner ps qs rs old new e f h g =
     let size : size_left c qs ≡ size_of_all (stmts_in (c.rest at)) + size_left c ps = ap (λ z. size_left c z) f ∙ size_onto c behind ps ∙ ap (λ is. size_of_all (stmts_in is) + size_left c ps) e in
     let whole : size_left c rs ≡ size_of_all (stmts_in (row_from c inner)) + size_left c qs = ap (λ z. size_left c z) g ∙ size_onto c inner qs in
     record {
-    named = λ rest. ap (λ z. fresh_slots c b new (names_left c b z rest)) g ∙ ap (λ z. fresh_slots c b new z) (left_onto c b inner qs rest)
-    ∙ h.named (names_left c b qs rest) ∙ ap (λ z. fresh_slots c b old (names_of b (top_stmt (c.item at ∷ [])) z)) (left rest);
-    sized = let less : size_of_all (stmts_in (row_from c inner)) < size_of (top_stmt (c.item at ∷ [])) = h.sized in omega (arith, size, whole, less) }
+      named = λ rest. ap (λ z. fresh_slots c b new (names_left c b z rest)) g ∙ ap (λ z. fresh_slots c b new z) (left_onto c b inner qs rest)
+          ∙ h.named (names_left c b qs rest) ∙ ap (λ z. fresh_slots c b old (names_of b (top_stmt (c.item at ∷ [])) z)) (left rest);
+      sized = let less : size_of_all (stmts_in (row_from c inner)) < size_of (top_stmt (c.item at ∷ [])) = h.sized in omega (arith, size, whole, less);
+    }
 
 pub var_names_are : (c : Laid) (p : Option ℕ) (names : List ℕ) → Gathers c true p [] names → fresh_slots c true names [] ≡ vars_of_all (stmts_in (row_from c p)) []
 var_names_are c p names h = h.named [] ∙ all_names (stmts_in (row_from c p)) []

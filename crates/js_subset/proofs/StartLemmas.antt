@@ -168,8 +168,10 @@ body_by w c rs x at q ls (whole_script (script b fs)) i k f s n a = absurd (cc)
 
 pub body_starts : (c : Laid) (at q : ℕ) (p : Option ℕ) (ls : List Local) → parts_of (c.item at) ≡ c.item q ∷ c.rest q → row_from c p ≡ c.rest q → scopes_of c ls ≡ body_scopes (stmts_in (row_from c p))
     → StartsIf c kind.Body at ls (next.Rest q)
-body_starts c at q p ls f r s = record { starts = λ k.
-    record { heard_as = λ w rs x t i m a. body_by w c rs x at q ls t i (kind_at c at kind.Body t i k) f (s ∙ ap (λ is. body_scopes (stmts_in is)) r) m a } }
+body_starts c at q p ls f r s = record {
+  starts = λ k.
+      record { heard_as = λ w rs x t i m a. body_by w c rs x at q ls t i (kind_at c at kind.Body t i k) f (s ∙ ap (λ is. body_scopes (stmts_in is)) r) m a };
+}
 
 other_stmt : (w : World) (c : Laid) (rs : List CellNo) (x : Where) (at : ℕ) (ls : List Local) (d : Stmt) → c.item at ≡ of_stmt d → kind_of (node_of (of_stmt d)) ≡ kind.Other → c.rest at ≡ []
     → scopes_of c ls ≡ body_scopes (stmts_in (c.item at ∷ c.rest at)) → x.calls ≡ 100 → x.author ≡ x.home.author

@@ -346,7 +346,7 @@ run_stmt w c x (either p e d r) at old new y ie h =
     ∙ ap (λ z. on w old z) (sym (counted_more (scopes_of c old.locals) old.left (λ s. eval (around_at x) e s (k (of_stmt d ∷ of_stmt r ∷ [])))))
 run_stmt w c x (while p e d) at old new y ie h =
     let turn : Expr → Stmt → State → (State → Ask) → (State → Ask) → Ask = λ g b t go out.
-        eval (around_at x) g t (λ v u. if counts v then run (around_at x) b u (record { next = go; give = give_in c x old.frames; stop = out; again = go }) else out u) in
+    eval (around_at x) g t (λ v u. if counts v then run (around_at x) b u (record { next = go; give = give_in c x old.frames; stop = out; again = go }) else out u) in
     let parts : of_expr e ∷ of_stmt d ∷ [] ≡ c.item h.0 ∷ c.rest h.0 = sym (ap (λ j. parts_of j) ie) ∙ h.1 in
     loops_on w c x most h.0 old new y h.2
     ∙ ap (λ j. on w old (rounds most (turn (top_expr (j ∷ [])) (top_stmt (c.rest h.0))) (state_of c old) (next_in c x old.frames))) (first_is (of_expr e) (c.item h.0) (of_stmt d ∷ []) (c.rest h.0) parts)

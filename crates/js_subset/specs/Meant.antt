@@ -163,19 +163,21 @@ abbrev mutual
       else other_run (around_at x) (c.rest p) s (record { next = next_in c x fs; give = give_in c x fs; stop = stop_in c x fs; again = again_in c x fs })
   then_of c x (frame.Test n p ∷ fs) v s =
       if counts v then run (around_at x) (top_stmt (c.rest p)) s (record {
-      next = λ t. rounds n (while_turn c (around_at x) p (give_in c x fs)) t (next_in c x fs);
-      give = give_in c x fs;
-      stop = next_in c x fs;
-      again = λ t. rounds n (while_turn c (around_at x) p (give_in c x fs)) t (next_in c x fs) })
+        next = λ t. rounds n (while_turn c (around_at x) p (give_in c x fs)) t (next_in c x fs);
+        give = give_in c x fs;
+        stop = next_in c x fs;
+        again = λ t. rounds n (while_turn c (around_at x) p (give_in c x fs)) t (next_in c x fs);
+      })
       else next_in c x fs s
   then_of c x (frame.ForFirst p ∷ fs) v s =
       rounds most (for_turn c (around_at x) p (λ w t. give_in c x fs w (leaves t))) (enters [] s) (λ t. next_in c x fs (leaves t))
   then_of c x (frame.ForTest n p ∷ fs) v s =
       if counts v then run (around_at x) (for_body_in (c.rest p)) s (record {
-      next = λ w. for_updated c (around_at x) p w (λ t. rounds n (for_turn c (around_at x) p (give_in c x fs)) t (next_in c x fs));
-      give = give_in c x fs;
-      stop = next_in c x fs;
-      again = λ w. for_updated c (around_at x) p w (λ t. rounds n (for_turn c (around_at x) p (give_in c x fs)) t (next_in c x fs)) })
+        next = λ w. for_updated c (around_at x) p w (λ t. rounds n (for_turn c (around_at x) p (give_in c x fs)) t (next_in c x fs));
+        give = give_in c x fs;
+        stop = next_in c x fs;
+        again = λ w. for_updated c (around_at x) p w (λ t. rounds n (for_turn c (around_at x) p (give_in c x fs)) t (next_in c x fs));
+      })
       else next_in c x fs s
   then_of c x (frame.ForUpdate n p ∷ fs) v s = rounds n (for_turn c (around_at x) p (give_in c x fs)) s (next_in c x fs)
   then_of c x (frame.Returned ∷ fs) v s = give_in c x fs v s

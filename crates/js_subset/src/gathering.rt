@@ -63,12 +63,7 @@ fn is_var_first(node: &Node) -> bool
 
 /// Adds a place, if it is that of a name that is declared.
 #[tactic(auto, using(crate::proofs::GatheringLemmas::adds_name, crate::proofs::GatheringLemmas::adds_no_name))]
-fn add_name(
-    tree: &Tree,
-    var: bool,
-    place: usize,
-    names: &mut Vec<usize>,
-) -> Result<(), NoMemory>
+fn add_name(tree: &Tree, var: bool, place: usize, names: &mut Vec<usize>) -> Result<(), NoMemory>
     ensures { IfOk result (λ _. NameAdded (laid tree.now) var place names.old.items names.new.items) }
 {
     let Some(node) = node_at(tree, place) else {
@@ -84,12 +79,7 @@ fn add_name(
 
 /// Adds the places of the names behind a mark.
 #[tactic(auto, using(crate::proofs::GatheringLemmas::adding_first, crate::proofs::GatheringLemmas::adding_last, crate::proofs::GatheringLemmas::adding_on))]
-fn add_names(
-    tree: &Tree,
-    var: bool,
-    mark: usize,
-    names: &mut Vec<usize>,
-) -> Result<(), NoMemory>
+fn add_names(tree: &Tree, var: bool, mark: usize, names: &mut Vec<usize>) -> Result<(), NoMemory>
     ensures { IfOk result (λ _. NamesAdded (laid tree.now) var mark names.old.items names.new.items) }
 {
     let mut part = row_behind(tree, mark);
@@ -175,11 +165,7 @@ fn inside_names(
 
 /// Adds the names with which a `for` begins, if it declares them by `var`.
 #[tactic(auto, using(crate::proofs::GatheringLemmas::first_not_added, crate::proofs::GatheringLemmas::first_asked))]
-fn first_inside(
-    tree: &Tree,
-    at: usize,
-    names: &mut Vec<usize>,
-) -> Result<(), NoMemory>
+fn first_inside(tree: &Tree, at: usize, names: &mut Vec<usize>) -> Result<(), NoMemory>
     ensures { IfOk result (λ _. FirstAdded (laid tree.now) at names.old.items names.new.items) }
 {
     let Some(node) = node_at(tree, at) else {

@@ -12,7 +12,6 @@ ghost use Rattle.js_subset.specs.Laid.{Laid};
 ghost use Rattle.js_subset.specs.Standing.{Standing, with_frame};
 ghost use Rattle.js_subset.specs.Meant.{Where, World, told};
 ghost use Rattle.js_subset.specs.Moves.{BeginsCounted, Resumes, Steps, Signs, Args};
-
 ghost use Rattle.js_subset.specs.Statements.{Takes, RunsAt, Rests, Declares, GoesOn, Gives, Stops, GoesAgain};
 ghost use Rattle.qml_syntax.specs.declared.literal.Declaration.{Declaration as Kept};
 

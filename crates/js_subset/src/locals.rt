@@ -101,11 +101,7 @@ fn is_named(local: &Local, tree: &Tree, name: &Text) -> Result<bool, NoMemory>
 }
 
 /// The local of a name among these, the latest first.
-fn find_in<'a>(
-    locals: &'a [Local],
-    tree: &Tree,
-    name: &Text,
-) -> Result<Option<&'a Local>, NoMemory>
+fn find_in<'a>(locals: &'a [Local], tree: &Tree, name: &Text) -> Result<Option<&'a Local>, NoMemory>
     ensures { IfOk result (λ o. MatchOption o (held_by (laid tree.now) name.now (reverse locals.now) ≡ None) (λ l. held_by (laid tree.now) name.now (reverse locals.now) ≡ held_of l.now)) }
 {
     let mut left = locals;
@@ -160,11 +156,7 @@ fn writable_held(local: &Local) -> Writable
 }
 
 /// Whether the local of a name may be assigned.
-pub(crate) fn writable_in(
-    locals: &Locals,
-    tree: &Tree,
-    name: &Text,
-) -> Result<Writable, NoMemory>
+pub(crate) fn writable_in(locals: &Locals, tree: &Tree, name: &Text) -> Result<Writable, NoMemory>
     ensures { IfOk result (λ w. w ≡ writable_by (local name.now (scopes_of (laid tree.now) locals.now))) }
 {
     match find(locals, tree, name)? {

@@ -118,11 +118,9 @@ fn moved_within<V: View>(
             let next = declared(machine, alloc, tree, kind, part)?;
             Ok(next)
         }
-        Next::Enter(_, _, _, _)
-        | Next::Done
-        | Next::Give(_)
-        | Next::Stop
-        | Next::Again => Err(NoMemory),
+        Next::Enter(_, _, _, _) | Next::Done | Next::Give(_) | Next::Stop | Next::Again => Err(
+            NoMemory,
+        ),
         Next::Ended(outcome) => Ok(Next::Ended(outcome)),
     }
 }

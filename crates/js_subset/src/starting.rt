@@ -10,9 +10,9 @@ ghost use Rattle.js_subset.specs.Stepping.{Starts, StartsIf, kind_of};
 
 use crate::calling::body_locals;
 use crate::frames::Next;
+use crate::gathering::row_behind;
 use crate::locals::Locals;
 use crate::parts::{first_part, is_expression, next_part, node_at};
-use crate::gathering::row_behind;
 use evaluation::Evaluated;
 use qml_syntax::{Node, Tree};
 use qml_text::NoMemory;

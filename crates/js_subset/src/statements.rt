@@ -128,7 +128,15 @@ fn var_left(
         return Ok(next);
     }
     let name = name_of(tree, place)?;
-    puts(machine, alloc, tree, name, is_let(kind), Value::Undefined, next)
+    puts(
+        machine,
+        alloc,
+        tree,
+        name,
+        is_let(kind),
+        Value::Undefined,
+        next,
+    )
 }
 
 /// Where the value of the name at a place stands, if it has one.
@@ -362,12 +370,7 @@ fn for_begun(
 
 /// Opens a block.
 #[tactic(auto, using(crate::proofs::ScopeLemmas::opened_scopes))]
-fn opened(
-    machine: &mut Machine,
-    alloc: Global,
-    tree: &Tree,
-    mark: usize,
-) -> Result<Next, NoMemory>
+fn opened(machine: &mut Machine, alloc: Global, tree: &Tree, mark: usize) -> Result<Next, NoMemory>
     ensures { IfOk result (λ y. Opens (laid tree.now) mark (standing machine.old) (standing machine.new) y) }
 {
     let names = let_names(alloc, tree, row_behind(tree, mark))?;
@@ -554,6 +557,41 @@ fn for_test_on(
     added(machine, Frame::ForRound(left, at), Next::Run(body))
 }
 
+/// Goes on with the value that a statement awaits and doesn't keep.
+fn looked_at(
+    machine: &mut Machine,
+    tree: &Tree,
+    frame: Frame,
+    value: &Value,
+) -> Result<Next, NoMemory>
+    ensures { IfOk result (λ y. Takes (laid tree.now) frame value.now (standing machine.old) (standing machine.new) y) }
+{
+    match frame {
+        Frame::Dropped => Ok(Next::Done),
+        Frame::When(test) => {
+            let next = when_on(machine, tree, truth(value), test)?;
+            Ok(next)
+        }
+        Frame::Test(left, test) => {
+            let next = test_on(machine, tree, truth(value), left, test)?;
+            Ok(next)
+        }
+        Frame::ForFirst(at) => {
+            let next = for_entered(machine, tree, at)?;
+            Ok(next)
+        }
+        Frame::ForTest(left, at) => {
+            let next = for_test_on(machine, tree, truth(value), left, at)?;
+            Ok(next)
+        }
+        Frame::ForUpdate(left, at) => {
+            let next = for_looped(machine, tree, left, at)?;
+            Ok(next)
+        }
+        _ => Err(NoMemory),
+    }
+}
+
 /// Goes on with the value that a statement awaits.
 pub(crate) fn taken(
     machine: &mut Machine,
@@ -565,44 +603,14 @@ pub(crate) fn taken(
     ensures { IfOk result (λ y. Takes (laid tree.now) frame value (standing machine.old) (standing machine.new) y) }
 {
     match frame {
-        Frame::Dropped => Ok(Next::Done),
-        Frame::When(test) => {
-            let next = when_on(machine, tree, truth(&value), test)?;
-            Ok(next)
-        }
-        Frame::Test(left, test) => {
-            let next = test_on(machine, tree, truth(&value), left, test)?;
-            Ok(next)
-        }
-        Frame::ForFirst(at) => {
-            let next = for_entered(machine, tree, at)?;
-            Ok(next)
-        }
-        Frame::ForTest(left, at) => {
-            let next = for_test_on(machine, tree, truth(&value), left, at)?;
-            Ok(next)
-        }
-        Frame::ForUpdate(left, at) => {
-            let next = for_looped(machine, tree, left, at)?;
-            Ok(next)
-        }
         Frame::Returned => Ok(Next::Give(value)),
         Frame::Var(kind, place, part) => {
             let next = var_set(machine, alloc, tree, kind, place, part, value)?;
             Ok(next)
         }
-        Frame::Chain(_, _, _)
-        | Frame::Right(_, _, _, _, _)
-        | Frame::Choose(_, _)
-        | Frame::Sign(_)
-        | Frame::First(_)
-        | Frame::Index(_, _)
-        | Frame::All(_, _, _)
-        | Frame::Row(_)
-        | Frame::Scope
-        | Frame::Round(_, _)
-        | Frame::ForStart(_)
-        | Frame::ForRound(_, _)
-        | Frame::Call(_, _, _) => Err(NoMemory),
+        other => {
+            let next = looked_at(machine, tree, other, &value)?;
+            Ok(next)
+        }
     }
 }

@@ -94,11 +94,7 @@ pub(crate) fn stops(machine: &mut Machine, tree: &Tree, frame: Frame) -> Result<
 }
 
 /// Goes on behind a `continue`.
-pub(crate) fn goes_again(
-    machine: &mut Machine,
-    tree: &Tree,
-    frame: Frame,
-) -> Result<Next, NoMemory>
+pub(crate) fn goes_again(machine: &mut Machine, tree: &Tree, frame: Frame) -> Result<Next, NoMemory>
     ensures { IfOk result (λ y. GoesAgain (laid tree.now) frame (standing machine.old) (standing machine.new) y) }
 {
     match frame {
