@@ -15,7 +15,7 @@ use Rattle.qml_lexer.specs.Characters.{is_part, run, behind}
 use Rattle.qml_text.specs.Utf.{encode_utf16_all}
 use Rattle.qml_syntax.specs.declared.token.TokenKind.TheVariants as kind
 use Rattle.qml_lexer.specs.Characters.{is_start}
-use Rattle.qml_lexer.specs.Spells.{is_identifier, a_name, a_word, Fits}
+use Rattle.qml_lexer.specs.Spells.{is_identifier, IsName, a_name, a_word, Fits}
 use Rattle.unicode_ident.proofs.IdentLemmas.{is_xid_start-ascii}
 use Rattle.unicode_ident.specs.Ident.{is_xid_start}
 use Rattle.qml_lexer.proofs.CharacterLemmas.{start_part}
@@ -156,3 +156,17 @@ name_cut x xs rest what h e =
       cut = sym (run-behind is_part (x ∷ xs)) ∙ ap (λ z. run is_part (x ∷ xs) ++ z) parts.1;
       fits = subst P parts.0 (spells_it (run is_part (x ∷ xs)) rest (run_identifier x xs h));
     }
+
+-- ---- a text that is a name
+
+pub names_it : (bytes : List ℕ) → IsUtf8 bytes → is_identifier (chars bytes) ≡ true → word_among reserved_words bytes ≡ None → IsName (chars bytes)
+names_it bytes u h none = (h, free)
+  where
+    free : (k : Word) → chars bytes ≢ word_spelling k
+    free k s =
+        let some : word_among reserved_words (encode_utf8_all (chars bytes)) ≡ Some k = ap (λ z. word_among reserved_words (encode_utf8_all z)) s ∙ ap (word_among reserved_words) (word_encodes k) ∙ word_found k in
+        let same : word_among reserved_words (encode_utf8_all (chars bytes)) ≡ None = ap (word_among reserved_words) (encodes-chars bytes u) ∙ none in
+        cc
+
+pub names_nothing : (bytes : List ℕ) (k : Word) → IsUtf8 bytes → word_among reserved_words bytes ≡ Some k → IsName (chars bytes) → ⊥
+names_nothing bytes k u some n = n.1 k (among_is reserved_words (chars bytes) k (ap (word_among reserved_words) (encodes-chars bytes u) ∙ some))
