@@ -56,7 +56,7 @@ lower_identifier (x ∷ xs) h l =
     let t = and_true (is_ascii_lowercase x) (list_all is_ascii_lowercase xs) h in
     and_both (is_start x) (list_all is_part xs) (lower_start x t.0) (lower_parts xs t.1)
 
-lower_encodes : (xs : List ℕ) → list_all is_ascii_lowercase xs ≡ true → encode_utf8_all xs ≡ xs
+pub lower_encodes : (xs : List ℕ) → list_all is_ascii_lowercase xs ≡ true → encode_utf8_all xs ≡ xs
 lower_encodes [] h = refl
 lower_encodes (x ∷ xs) h =
     let t = and_true (is_ascii_lowercase x) (list_all is_ascii_lowercase xs) h in
@@ -69,7 +69,7 @@ word_encodes w = lower_encodes (word_spelling w) (word_letters w)
 pub word_identifier : (w : Word) → is_identifier (word_spelling w) ≡ true
 word_identifier w = lower_identifier (word_spelling w) (word_letters w) (word_length w)
 
-same_bytes : (xs ys : List ℕ) → bytes_eq xs ys ≡ true → xs ≡ ys
+pub same_bytes : (xs ys : List ℕ) → bytes_eq xs ys ≡ true → xs ≡ ys
 same_bytes xs ys h = same_text xs ys (sym h)
 
 -- characters with the bytes of a word are the word
