@@ -1,6 +1,6 @@
 use Rattle.std.proofs.Common.{◌≡◌, ◌++◌, ◌≤◌, take, drop}
 use Rattle.tree_model.specs.Removing.{kept_of}
-use Rattle.object_tree.proofs.marking.keep.Given as goal
+use Rattle.object_tree.proofs.removing.keep.Given as goal
 
 abbrev pub invariant-objects : goal.invariant-objects
 invariant-objects l = record {
