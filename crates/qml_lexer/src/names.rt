@@ -75,7 +75,8 @@ fn word_among(words: &[Word], name: &str) -> Option<Word>
 /// The reserved words among which a name that begins with this byte has to be looked for.
 #[tactic(auto, using(crate::proofs::FirstLemmas::words_by_first))]
 fn words_from(first: u8) -> &'static [Word]
-    ensures { (bytes : List ℕ) → s.word_among result.now (first ∷ bytes) ≡ s.word_among s.reserved_words (first ∷ bytes) }
+    ensures { (bytes : List ℕ) →
+        s.word_among result.now (first ∷ bytes) ≡ s.word_among s.reserved_words (first ∷ bytes) }
 {
     match first {
         b'b' => &[Word::Break],
