@@ -1,0 +1,18 @@
+-- Names, each with what stands under it.
+use Rattle.std.specs.Prelude.{ℕ, List, [], ◌∷◌, ◌++◌, if◌then◌else◌, is_some, Option, Some, None}
+use Rattle.std.specs.Str.{bytes_eq}
+use Rattle.std.specs.declared.alloc.Global.{Global}
+use Rattle.std.specs.declared.vec.Vec.{Vec}
+
+-- what stands under a name: the first
+abbrev pub under : {X : Type 0} → List (List ℕ × X) → List ℕ → Option X
+under [] name = None
+under (row ∷ rest) name = if bytes_eq name row.0 then Some row.1 else under rest name
+
+-- a name that is there already keeps what stands under it, another one goes last
+abbrev pub put : {X : Type 0} → List (List ℕ × X) → List ℕ → X → List (List ℕ × X)
+put names name x = if is_some (under names name) then names else names ++ (name, x) ∷ []
+
+-- names as they lie in a map
+abbrev pub pair_of : {X : Type 0} → Vec ℕ Global × X → List ℕ × X
+pair_of entry = (entry.0.items, entry.1)
