@@ -1,5 +1,5 @@
-mod OrderLemmas
-mod FirstLemmas
+pub mod OrderLemmas
+pub mod FirstLemmas
 pub mod ExampleForms
 mod CauseExamples
 mod RuleExamples

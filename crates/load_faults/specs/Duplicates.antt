@@ -19,11 +19,11 @@ use Rattle.load_faults.specs.Faults.{Faults, fault_if, each_object, Purpose, by_
 
 -- ---- DuplicateId: an id is used twice in a component
 
-abbrev same_id : Program → Roots → ℕ → Id → Id → Bool
+abbrev pub same_id : Program → Roots → ℕ → Id → Id → Bool
 same_id p roots d i j = bytes_eq i.name j.name && nat_eq (root_of p roots d i.object) (root_of p roots d j.object)
 
 -- in the order of writing, over those that were seen
-abbrev ids_twice : Program → Roots → ℕ → List Id → List Id → Faults
+abbrev pub ids_twice : Program → Roots → ℕ → List Id → List Id → Faults
 ids_twice p roots d seen [] = []
 ids_twice p roots d seen (i ∷ rest) =
     fault_if (list_any (same_id p roots d i) seen) i.at cause.DuplicateId ++ ids_twice p roots d (i ∷ seen) rest

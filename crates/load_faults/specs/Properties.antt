@@ -68,7 +68,7 @@ unknown_properties p roots d =
 -- ---- ReadOnly: a value for a readonly property outside its declaration, or for a whole object. What an object gives to
 -- its own literal property or to its own `target` isn't such a value.
 
-abbrev may_be_given : Access → Bool → Bool
+abbrev pub may_be_given : Access → Bool → Bool
 may_be_given Writable own = true
 may_be_given Literal own = own
 may_be_given Id own = own
@@ -101,7 +101,7 @@ abbrev is_literal_value : WrittenValue → Bool
 is_literal_value (by_stmt s) = is_literal s
 is_literal_value _ = false
 
-abbrev is_literal_access : Access → Bool
+abbrev pub is_literal_access : Access → Bool
 is_literal_access Literal = true
 is_literal_access _ = false
 

@@ -1,0 +1,3 @@
+pub mod WalkLemmas
+pub mod MatchLemmas
+pub mod StepLemmas

@@ -1,0 +1,13 @@
+//! What the rows stand for.
+
+ghost use Rattle.std.specs.Prelude.{◌≡◌, ℕ, [], map};
+ghost use Rattle.qml_base.specs.declared.load_cause.LoadCause.TheVariants as cause;
+ghost use Rattle.program_names.specs.Loaded.{Program};
+ghost use Rattle.program_names.specs.Components.{Roots, ids_written};
+ghost use Rattle.load_faults.specs.Duplicates.{duplicate_ids};
+ghost use Rattle.load_passes.specs.Rows.{repeated, id_row};
+
+/// An id is used twice in a component exactly where its row, with the root of its component as owner, stands a second time.
+pub fn ids_as_rows()
+    ensures { (p : Program) (roots : Roots) (d : ℕ) → repeated cause.DuplicateId [] (map (id_row p roots d) (ids_written p d)) ≡ duplicate_ids p roots d }
+{}
