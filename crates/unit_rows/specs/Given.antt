@@ -61,7 +61,7 @@ given_to k body (by_list at os) = by_objects k os
 
 -- ---- cells
 
-abbrev builtin_among : List TypeRef → TypeNo
+abbrev pub builtin_among : List TypeRef → TypeNo
 builtin_among [] = no.QtObject
 builtin_among (Builtin t ∷ rest) = t
 builtin_among (t ∷ rest) = builtin_among rest
