@@ -1,11 +1,11 @@
 -- Names in a map and in a list.
-use Rattle.std.proofs.Common.{◌≡◌, ◌∙◌, ap, sym, refl, cond, ℕ, Bool, true, false, List, [], ◌∷◌, ◌++◌, map, Option, None, Some, is_some}
+use Rattle.std.proofs.Common.{◌≡◌, ◌∙◌, ap, sym, refl, cond, ℕ, Bool, true, false, List, [], ◌∷◌, ◌++◌, map, Option, None, Some, is_some, zero, suc, ◌+◌, ◌≤◌, add-one, drop, slice_get, length, if◌then◌else◌, arith}
 use Rattle.std.specs.declared.alloc.Global.{Global}
 use Rattle.std.specs.declared.vec.Vec.{Vec}
 use Rattle.std.specs.Str.{bytes_eq}
 use Rattle.std.specs.Map.{lookup}
 use Rattle.indexmap.specs.IndexMap.{insert_entry}
-use Rattle.qml_scope.specs.Names.{under, pair_of, put}
+use Rattle.qml_scope.specs.Names.{under, pair_of, put, named_by}
 use Rattle.std.proofs.lemmas.Bool.{false≢true}
 
 abbrev same_units : Vec ℕ Global → Vec ℕ Global → Bool
@@ -55,3 +55,39 @@ module _ {X : Type 0} where
       let before : lookup (key_is k.items) es ≡ None = found_alike es k.items ∙ ap (λ (ns : List (List ℕ × X)). under ns k.items) view ∙ ap (under names) same ∙ none in
       ap (map pair_of) inserted ∙ inserted_last es k found before ∙ ap (λ (ns : List (List ℕ × X)). ns ++ (k.items, found) ∷ []) view ∙
       ap (λ (n : List ℕ). names ++ (n, found) ∷ []) same ∙ sym (put_new names name found (is_some (under names name)) refl (ap is_some none))
+
+-- ---- the first name that passes a test
+entry_first : {X : Type 0} (es : Entries X) (i : ℕ) (e : Vec ℕ Global × X) → Some e ≡ slice_get es i → drop i es ≡ e ∷ drop (suc i) es
+entry_first [] i e h = let no : Some e ≡ None = h in cc
+entry_first (d ∷ ds) zero e h = let first : e ≡ d = cc in rw first refl
+entry_first (d ∷ ds) (suc i) e h = entry_first ds i e h
+
+pub named_here : {X : Type 0} (test : X → Bool) (es : Entries X) (i : ℕ) (e : Vec ℕ Global × X) (all : Option (List ℕ)) → Some e ≡ slice_get es i → test e.1 ≡ true → named_by test (map pair_of (drop i es)) ≡ all → Some e.0.items ≡ all
+named_here test es i e all at fits done =
+    ap (λ (b : Bool). if b then Some e.0.items else named_by test (map pair_of (drop (suc i) es))) (sym fits)
+    ∙ ap (λ ds. named_by test (map pair_of ds)) (sym (entry_first es i e at)) ∙ done
+
+pub named_next : {X : Type 0} (test : X → Bool) (es : Entries X) (i : ℕ) (e : Vec ℕ Global × X) (all : Option (List ℕ)) → Some e ≡ slice_get es i → test e.1 ≡ false → named_by test (map pair_of (drop i es)) ≡ all → named_by test (map pair_of (drop (i + 1) es)) ≡ all
+named_next test es i e all at fails done =
+    ap (λ k. named_by test (map pair_of (drop k es))) (add-one i)
+    ∙ ap (λ (b : Bool). if b then Some e.0.items else named_by test (map pair_of (drop (suc i) es))) (sym fails)
+    ∙ ap (λ ds. named_by test (map pair_of ds)) (sym (entry_first es i e at)) ∙ done
+
+nothing_left : {X : Type 0} (ds : Entries X) (k : ℕ) → length ds ≤ k → drop k ds ≡ []
+nothing_left [] zero h = refl
+nothing_left [] (suc k) h = refl
+nothing_left (d ∷ ds) zero h = absurd (omega arith)
+nothing_left (d ∷ ds) (suc k) h = nothing_left ds k (omega arith)
+
+none_there : {X : Type 0} (ds : Entries X) (k : ℕ) → Path (Option (Vec ℕ Global × X)) None (slice_get ds k) → length ds ≤ k
+none_there [] k h = omega arith
+none_there (d ∷ ds) zero h = let no : None ≡ Some d = h in cc
+none_there (d ∷ ds) (suc k) h = let rest = none_there ds k h in omega arith
+
+pub named_end : {X : Type 0} (test : X → Bool) (es : Entries X) (i : ℕ) (all : Option (List ℕ)) → length es ≤ i → named_by test (map pair_of (drop i es)) ≡ all → Path (Option (List ℕ)) None all
+named_end test es i all past done = ap (λ ds. named_by test (map pair_of ds)) (sym (nothing_left es i past)) ∙ done
+
+pub named_gone : {X : Type 0} (test : X → Bool) (es : Entries X) (i : ℕ) (all : Option (List ℕ)) → Path (Option (Vec ℕ Global × X)) None (slice_get es i) → named_by test (map pair_of (drop i es)) ≡ all → named_by test (map pair_of (drop (i + 1) es)) ≡ all
+named_gone test es i all h done =
+    let past = none_there es i h in
+    ap (λ ds. named_by test (map pair_of ds)) (nothing_left es (i + 1) (omega arith) ∙ sym (nothing_left es i past)) ∙ done

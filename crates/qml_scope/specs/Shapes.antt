@@ -1,5 +1,5 @@
 -- The names of live objects by component, and what a name finds from one of them.
-use Rattle.std.specs.Prelude.{◌≡◌, ℕ, zero, suc, Bool, true, false, ◌&&◌, ◌||◌, nat_eq, if◌then◌else◌, List, [], ◌∷◌, length, codes, Option, Some, None, is_some}
+use Rattle.std.specs.Prelude.{◌≡◌, ◌+◌, ℕ, zero, suc, Bool, true, false, ◌&&◌, ◌||◌, nat_eq, if◌then◌else◌, List, [], ◌∷◌, length, codes, Option, Some, None, is_some}
 use Rattle.std.specs.Str.{bytes_eq}
 use Rattle.std.specs.declared.alloc.Global.{Global}
 use Rattle.std.specs.declared.vec.Vec.{Vec}
@@ -16,7 +16,7 @@ use Rattle.qml_types.specs.declared.kind.TypeRef.{TypeRef}
 use Rattle.qml_types.specs.declared.kind.TypeRef.TheVariants.{Builtin}
 use Rattle.qml_types.specs.declared.kind.TypeNo.TheVariants as no
 use Rattle.tree_model.specs.Converting.{has_type}
-use Rattle.qml_scope.specs.Names.{under}
+use Rattle.qml_scope.specs.Names.{under, named_by}
 
 -- the first of two that there is
 abbrev pub first_of : {X : Type 0} → Option X → Option X → Option X
@@ -143,17 +143,44 @@ abbrev pub found_or : Option Found → Found → Found
 found_or None otherwise = otherwise
 found_or (Some f) otherwise = f
 
+abbrev pub from_here : Known → Option Shape → Option Found → List ℕ → Option Found
+from_here known s scope name = outwards (length known.instances + 1) known.instances (is_component known.told) s scope name
+
 -- what a name finds from a home
 abbrev pub resolved : Known → Home → List ℕ → Found
 resolved known home name =
     found_or
-    (first_of (outwards (suc (length known.instances)) known.instances (is_component known.told) (component_of known.instances home) (seen_in known.instances home.unit home.scope name) name)
+    (first_of (from_here known (component_of known.instances home) (seen_in known.instances home.unit home.scope name) name)
     (seen_in known.instances home.unit unit_object name))
     (found_global name)
 
 -- what an object has under a name
 abbrev pub member_of : Known → ObjNo → List ℕ → Found
 member_of known o name = found_or (told_anywhere known.instances o name) finds.Nothing
+
+-- ---- the name under which a cell was declared
+abbrev pub is_cell : CellNo → Found → Bool
+is_cell c (finds.Cell d) = same_cell c d
+is_cell c _ = false
+
+-- what an object has, as its first entry tells; the names of aliases stand behind all others
+abbrev pub name_among : CellNo → List Entry → Option (List ℕ)
+name_among c [] = None
+name_among c (e ∷ es) = if same_object e.object c.object then named_by (is_cell c) e.names else name_among c es
+
+abbrev pub delegate_name : CellNo → Shape → Option (List ℕ)
+delegate_name c s = named_by (same_cell c) s.names
+
+abbrev pub name_at : CellNo → Shape → Option (List ℕ)
+name_at c s = first_of (delegate_name c s) (name_among c s.members.items)
+
+abbrev pub name_of_cell : CellNo → List Shape → Option (List ℕ)
+name_of_cell c [] = None
+name_of_cell c (s ∷ ss) = first_of (name_at c s) (name_of_cell c ss)
+
+abbrev pub has_delegate : CellNo → List Shape → Bool
+has_delegate c [] = false
+has_delegate c (s ∷ ss) = is_some (delegate_name c s) || has_delegate c ss
 
 -- ---- whether a name finds what it finds as an id
 abbrev pub or_else : {X : Type 0} → Option X → X → X
@@ -171,8 +198,11 @@ ids_outwards (suc n) shapes makes None scope name = false
 ids_outwards (suc n) shapes makes (Some s) scope name =
     or_else (id_here shapes makes s scope name) (ids_outwards n shapes makes (around shapes s.unit s.enclosing) None name)
 
+abbrev pub ids_from_here : Known → Option Shape → Option Found → List ℕ → Bool
+ids_from_here known s scope name = ids_outwards (length known.instances + 1) known.instances (is_component known.told) s scope name
+
 abbrev pub is_id_of : Known → Home → List ℕ → Bool
-is_id_of known home name = ids_outwards (suc (length known.instances)) known.instances (is_component known.told) (component_of known.instances home) (seen_in known.instances home.unit home.scope name) name
+is_id_of known home name = ids_from_here known (component_of known.instances home) (seen_in known.instances home.unit home.scope name) name
 
 -- what names find, as evaluation asks for it
 abbrev pub names_of : Known → Names

@@ -3,9 +3,10 @@
 ghost use Rattle.std.specs.Prelude.{◌≡◌, List, Option as Maybe, None as none, option_copied};
 ghost use Rattle.qml_base.specs.declared.numbers.ObjNo.{ObjNo};
 ghost use Rattle.qml_scope.specs.Shapes.{stands_among, told_in, holds, is_rooted, instance_of, instance_at, seen_in, told_anywhere};
+ghost use Rattle.qml_scope.specs.Shapes.{name_among, name_at, name_of_cell, has_delegate};
 
 use crate::shape::{Entry, Shape};
-use qml_base::{Found, ObjNo, UnitNo};
+use qml_base::{CellNo, Found, ObjNo, UnitNo};
 use qml_text::Text;
 
 /// Whether the object stands among these.
@@ -88,4 +89,49 @@ pub fn told_first(shapes: &[Shape], o: ObjNo, name: &Text) -> Option<Found>
         }
     }
     None
+}
+
+/// The first name under which the object's entry finds the cell.
+fn name_among<'a>(entries: &'a [Entry], c: CellNo) -> Option<&'a [u16]>
+    ensures { option_copied result ≡ name_among c entries.now }
+{
+    for entry in entries {
+        if entry.object == c.object {
+            return entry.names.name_finding(c);
+        }
+    }
+    None
+}
+
+fn name_at<'a>(shape: &'a Shape, c: CellNo) -> Option<&'a [u16]>
+    ensures { option_copied result ≡ name_at c shape.now }
+{
+    match shape.names.name_of(c) {
+        Some(name) => Some(name),
+        None => name_among(shape.members.as_slice(), c),
+    }
+}
+
+/// The name under which the cell was declared, in the first instance that knows one.
+pub fn cell_name<'a>(shapes: &'a [Shape], c: CellNo) -> Option<&'a [u16]>
+    ensures { option_copied result ≡ name_of_cell c shapes.now }
+{
+    for shape in shapes {
+        if let Some(name) = name_at(shape, c) {
+            return Some(name);
+        }
+    }
+    None
+}
+
+/// Whether the cell is that of a delegate name.
+pub fn has_delegate(shapes: &[Shape], c: CellNo) -> bool
+    ensures { result ≡ has_delegate c shapes.now }
+{
+    for shape in shapes {
+        if shape.names.name_of(c).is_some() {
+            return true;
+        }
+    }
+    false
 }

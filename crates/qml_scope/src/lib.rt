@@ -1,5 +1,5 @@
-//! What names find from a home, over the live instances of components: `Shapes` is the table of these and of the types of
-//! objects, `resolve` and `member` are the definitions of `specs/Shapes.antt` exactly.
+//! What names find from a home, over the live instances of components: `Shapes` is the table of these and of the types
+//! of objects, `resolve` and `member` are the definitions of `specs/Shapes.antt` exactly.
 #![tactic(auto)]
 
 mod instances;

@@ -1,8 +1,8 @@
 //! What names find (Qt 5.15, "Scope and Naming Resolution").
 
-ghost use Rattle.std.specs.Prelude.{◌≡◌, option_copied, length, ◌+◌};
+ghost use Rattle.std.specs.Prelude.{◌≡◌, option_copied};
 ghost use Rattle.std.specs.Str.{bytes_eq};
-ghost use Rattle.qml_scope.specs.Shapes.{is_in, global_names, found_here, outwards as outwards_of, around as around_of, component_of, is_component, resolved, member_of, id_here, ids_outwards, is_id_of};
+ghost use Rattle.qml_scope.specs.Shapes.{is_in, global_names, found_here, from_here, ids_from_here, around as around_of, component_of, is_component, resolved, member_of, id_here, is_id_of};
 
 use crate::instances::{find_instance, find_root, seen, told_first};
 use crate::shape::Shape;
@@ -16,8 +16,8 @@ fn is_word(name: &[u16], word: &[u16]) -> bool
     name == word
 }
 
-/// Whether the name is a global: `undefined`, `Math`, `Qt`, `console`, `String`, or one of the enumerations `Loader` and
-/// `Binding`.
+/// Whether the name is a global: `undefined`, `Math`, `Qt`, `console`, `String`, or one of the enumerations `Loader`
+/// and `Binding`.
 fn is_global(name: &Text) -> bool
     ensures { result ≡ is_in name.now global_names }
 {
@@ -67,7 +67,7 @@ fn outwards(
     scope: Option<Found>,
     name: &Text,
 ) -> Option<Found>
-    ensures { result ≡ outwards_of (length shapes.now.instances + 1) shapes.now.instances (is_component shapes.now.told) (option_copied from.entry) scope name.now }
+    ensures { result ≡ from_here shapes.now (option_copied from.entry) scope name.now }
 {
     let mut at = from;
     let mut scope = scope;
@@ -96,9 +96,9 @@ fn component<'a>(shapes: &'a Shapes, home: Home) -> Option<&'a Shape>
     }
 }
 
-/// What the name finds from a home: the ids of the component, its delegate names, the scope object, its root, the components
-/// around it outwards, the names of the unit that belong to no object, and globals. `Nothing` comes exactly where none of these has
-/// the name.
+/// What the name finds from a home: the ids of the component, its delegate names, the scope object, its root, the
+/// components around it outwards, the names of the unit that belong to no object, and globals. `Nothing` comes exactly
+/// where none of these has the name.
 pub fn resolve(shapes: &Shapes, home: Home, name: &Text) -> Found
     ensures { result ≡ resolved shapes.now home name.now }
 {
@@ -130,7 +130,7 @@ fn by_id(shapes: &Shapes, shape: &Shape, scope: Option<Found>, name: &Text) -> O
 
 /// Whether a name is found as an id from a component outwards.
 fn ids(shapes: &Shapes, from: Option<&Shape>, scope: Option<Found>, name: &Text) -> bool
-    ensures { result ≡ ids_outwards (length shapes.now.instances + 1) shapes.now.instances (is_component shapes.now.told) (option_copied from.entry) scope name.now }
+    ensures { result ≡ ids_from_here shapes.now (option_copied from.entry) scope name.now }
 {
     let mut at = from;
     let mut scope = scope;
@@ -157,7 +157,8 @@ pub fn is_id(shapes: &Shapes, home: Home, name: &Text) -> bool
     ids(shapes, component(shapes, home), scope, name)
 }
 
-/// What the object itself has under the name; delegate names aren't counted. `Nothing` comes exactly where it has no such name.
+/// What the object itself has under the name; delegate names aren't counted. `Nothing` comes exactly where it has no
+/// such name.
 pub fn member(shapes: &Shapes, o: ObjNo, name: &Text) -> Found
     ensures { result ≡ member_of shapes.now o name.now }
 {

@@ -3,15 +3,17 @@
 use crate::named::Named;
 use qml_base::{CellNo, Found, ObjNo, UnitNo};
 
-/// The names of one object as one document sees them, in the order of the cells' places, those of its aliases after all others.
+/// The names of one object as one document sees them, in the order of the cells' places, those of its aliases after all
+/// others.
 #[derive(Drop)]
 pub struct Entry {
     pub object: ObjNo,
     pub names: Named<Found>,
 }
 
-/// One live instance of a component (Qt 5.15, "Scope and Naming Resolution"). Of each unit there is one more, whose root and only
-/// object is `ObjNo(0)`: it has the names that belong to no object, the qualifiers of a document's scripts and a script's functions.
+/// One live instance of a component (Qt 5.15, "Scope and Naming Resolution"). Of each unit there is one more, whose root
+/// and only object is `ObjNo(0)`: it has the names that belong to no object, the qualifiers of a document's scripts and a
+/// script's functions.
 #[derive(Drop)]
 pub struct Shape {
     /// The document in which the component is written.

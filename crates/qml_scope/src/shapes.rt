@@ -1,14 +1,15 @@
 //! The live instances, and the types of objects.
 
-ghost use Rattle.std.specs.Prelude.{◌≡◌, ◌++◌, ◌∷◌, [], OnOk, OnErr};
-ghost use Rattle.qml_scope.specs.Shapes.{TellsOf, types_among, instances_but, is_component};
+ghost use Rattle.std.specs.Prelude.{◌≡◌, ◌++◌, ◌∷◌, [], OnOk, OnErr, option_copied};
+ghost use Rattle.qml_scope.specs.Shapes.{TellsOf, types_among, instances_but, is_component, name_of_cell, has_delegate};
 ghost use Rattle.qml_types.specs.declared.kind.TypeRef.TheVariants.{Builtin as builtin};
 ghost use Rattle.qml_types.specs.declared.kind.TypeNo.TheVariants as no;
 ghost use Rattle.tree_model.specs.Converting.{same_type, has_type};
 
+use crate::instances::{cell_name, has_delegate};
 use crate::shape::Shape;
 use indexmap::IndexMap;
-use qml_base::{NoMemory, ObjNo};
+use qml_base::{CellNo, NoMemory, ObjNo};
 use qml_types::{TypeNo, TypeRef};
 use std::alloc::Global;
 use std::marker::Model;
@@ -121,5 +122,20 @@ impl Shapes {
         ensures { result ≡ is_component self.now.told o }
     {
         has_component(self.types_told(o))
+    }
+
+    /// The name under which the cell was declared, as UTF-16 units, and never an alias's while its own is told before those;
+    /// none exactly where no instance has one, as for a hidden cell.
+    pub fn name_of(&self, c: CellNo) -> Option<&[u16]>
+        ensures { option_copied result ≡ name_of_cell c self.now.instances }
+    {
+        cell_name(self.instances.as_slice(), c)
+    }
+
+    /// Whether the cell is that of a delegate name.
+    pub fn is_delegate_name(&self, c: CellNo) -> bool
+        ensures { result ≡ has_delegate c self.now.instances }
+    {
+        has_delegate(self.instances.as_slice(), c)
     }
 }
