@@ -104,10 +104,16 @@ fn tell_lexer_fault(rt: &HostRuntime, fault: LexFault) -> io::Result<()> {
 fn tell_parser_fault(rt: &HostRuntime, tokens: usize, fault: ParseFault) -> io::Result<()> {
     match fault {
         ParseFault::Syntax { place } => {
-            println!(rt; "{tokens} tokens, Syntax at {}:{}", place.line, place.column)
+            println!(rt;
+                "{tokens} tokens, Syntax at {}:{}",
+                place.line, place.column
+            )
         }
         ParseFault::TooDeep { place } => {
-            println!(rt; "{tokens} tokens, TooDeep at {}:{}", place.line, place.column)
+            println!(rt;
+                "{tokens} tokens, TooDeep at {}:{}",
+                place.line, place.column
+            )
         }
         ParseFault::NoMemory => println!(rt; "{tokens} tokens, no memory"),
     }
