@@ -1,23 +1,21 @@
 -- What is made of small documents: the objects in order, with what each cell contains and holds at first.
-use Rattle.std.specs.Prelude.{◌≡◌, refl, ℕ, pos, neg_ℤ, Bool, true, false, List, [], ◌∷◌, Option, Some, None, codes}
+use Rattle.std.specs.Prelude.{◌≡◌, refl, ℕ, pos, neg_ℤ, true, false, [], ◌∷◌, Some, None, codes}
 use Rattle.std.specs.Fmt.{digits}
 use Rattle.qml_base.specs.declared.numbers.ObjNo.{ObjNo}
-use Rattle.qml_base.specs.declared.numbers.Place.{Place}
 use Rattle.qml_syntax.specs.declared.contextual.Adjective.TheVariants as adjective
 use Rattle.qml_syntax.specs.declared.contextual.Version.TheVariants as version
 use Rattle.qml_syntax.specs.declared.operators.Operator.TheVariants as operator
 use Rattle.qml_syntax.specs.declared.operators.Prefix.TheVariants as prefix
-use Rattle.qml_syntax.specs.declared.operators.Postfix.TheVariants as post
 use Rattle.qml_syntax.specs.declared.operators.Assignment.TheVariants as assignment
 use Rattle.qml_syntax.specs.declared.literal.Literal.TheVariants as lit
-use Rattle.qml_syntax.specs.Tree.{auto, name, number, text, literal, paren, list as elements, steps, bumped, signed, chain, assign, no_exprs, an_expr, member, element, call, no_steps, a_step, no_signs, no_links, no_targets, expr, block, give, no_stmts, a_stmt, just, import_module, import_text, own_type, type_of, kind_var, kind_name, kind_list, no_pars, a_par, function, no_signal_pars, a_signal_par, object, no_members, a_member, id, property, bare, alias, signal, method, given, group, child, value_object, value_list, value_stmt, last_object, an_object, document, script}
+use Rattle.qml_syntax.specs.Tree.{auto, name, number, text, literal, steps, signed, chain, assign, member, no_steps, no_signs, no_links, no_targets, expr, no_stmts, a_stmt, import_module, own_type, kind_var, kind_name, kind_list, no_pars, function, object, no_members, a_member, id, property, bare, alias, method, given, child, value_object, value_list, value_stmt, last_object, an_object, document}
 use Rattle.qml_value.specs.declared.value.Value.{Undefined, Null, Bool as Truth, Num, Text, Object as AnObject, Component as AComponent}
 use Rattle.qml_types.specs.declared.kind.TypeRef.{TypeRef}
 use Rattle.qml_types.specs.declared.kind.TypeRef.TheVariants.{Builtin, Document}
 use Rattle.qml_types.specs.declared.kind.TypeNo.TheVariants as no
-use Rattle.program_names.specs.Reading.{is_document, is_script}
+use Rattle.program_names.specs.Reading.{is_document}
 use Rattle.program_names.specs.Loaded.{Program, program_of}
-use Rattle.instance_plans.specs.Contents.{by_visible, by_enabled, by_count}
+use Rattle.instance_plans.specs.Contents.{by_visible, by_enabled}
 use Rattle.instance_plans.proofs.MadeForms.{at, file, held, sources, value, list, text_in, rule, made, told}
 
 abbrev o : ℕ → ObjNo

@@ -1,13 +1,10 @@
 -- The form in which examples of making are written: files with what they hold, and what is made of the root of the first.
-use Rattle.std.specs.Prelude.{ℕ, Bool, true, false, if◌then◌else◌, List, [], ◌∷◌, map, length, Option, None, Result, Ok, Err}
+use Rattle.std.specs.Prelude.{ℕ, Bool, true, false, List, [], map, length, Option, None, Result, Ok, Err}
 use Rattle.std.specs.List.{filter}
-use Rattle.qml_base.specs.declared.numbers.Place.{Place}
 use Rattle.qml_base.specs.declared.numbers.ExprNo.{ExprNo}
 use Rattle.qml_syntax.specs.Tree.{Units}
 use Rattle.qml_value.specs.declared.value.Value.{Value}
 use Rattle.qml_types.specs.declared.kind.TypeRef.{TypeRef}
-use Rattle.program_names.specs.Paths.{Path}
-use Rattle.program_names.specs.Reading.{File, Source, Sources, no_file, same_file}
 use Rattle.program_names.specs.Loaded.{Program}
 use Rattle.program_names.specs.ComponentRoots.{roots_of}
 use Rattle.qml_scope.specs.Shapes.{Known}
@@ -16,26 +13,7 @@ use Rattle.unit_rows.specs.UnitRows.{rows_of_program}
 use Rattle.instance_plans.specs.Contents.{Rule, by_text, Content, plain, list_of, bound}
 use Rattle.instance_plans.specs.Cells.{MadeCell, MadeObject}
 use Rattle.instance_plans.specs.Plans.{Instance, PlanFault, plan_instance}
-
-abbrev pub at : ℕ → ℕ → Place
-at l c = record { line = l; column = c }
-
-abbrev pub file : Bool → Path → File
-file is_script path = record { is_script = is_script; path = path }
-
-pub record Holding : Type 0 where
-  pub place : File
-  pub source : Source
-
-abbrev pub held : File → Source → Holding
-held place source = record { place = place; source = source }
-
-abbrev source_in : List Holding → File → Source
-source_in [] f = no_file
-source_in (h ∷ rest) f = if same_file h.place f then h.source else source_in rest f
-
-abbrev pub sources : List Holding → Sources
-sources files f = source_in files f
+pub use Rattle.program_names.proofs.ExampleFiles.{at, file, held, sources}
 
 -- what a cell contains: a text by its document, its scope object and its author
 pub data Shown : Type 0 where

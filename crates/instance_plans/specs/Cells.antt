@@ -19,7 +19,7 @@ use Rattle.program_names.specs.Layers.{same_type}
 use Rattle.unit_rows.specs.Rows.{SignalRef, HandlerRow, CellRow}
 use Rattle.qml_scope.specs.Shapes.{Known}
 use Rattle.instance_plans.specs.Numbers.{AllRows, Planned, Plan, row_at, documents_of, types_of, stands_on, planned_at, builtin_planned, value_at, object_no, cell_no, unit_no}
-use Rattle.instance_plans.specs.Contents.{Rule, by_visible, by_enabled, by_count, Content, plain, list_of, bound, GivenCell, given_in, anonymous, value_of_live}
+use Rattle.instance_plans.specs.Contents.{by_visible, by_enabled, by_count, Content, plain, list_of, bound, GivenCell, given_in, anonymous, value_of_live}
 
 -- a cell with its kind, its content, and what it holds until its content first gives a value
 pub record MadeCell : Type 0 where

@@ -1,23 +1,20 @@
 -- What each PropertyChanges of a plan changes, by the names of the objects as they are when all is made.
-use Rattle.std.specs.Prelude.{ℕ, Bool, true, false, ◌&&◌, nat_eq, if◌then◌else◌, List, [], ◌∷◌, ◌++◌, map, Option, Some, None}
-use Rattle.std.specs.Option.{option_and_then}
+use Rattle.std.specs.Prelude.{ℕ, Bool, ◌&&◌, nat_eq, if◌then◌else◌, List, [], ◌∷◌, ◌++◌, map, Option, Some, None}
 use Rattle.std.specs.List.{flat_map, filter, find, list_any}
 use Rattle.qml_base.specs.declared.numbers.ObjNo.{ObjNo}
 use Rattle.qml_base.specs.declared.numbers.CellNo.{CellNo}
 use Rattle.qml_base.specs.declared.names.Found.{Found}
 use Rattle.qml_base.specs.declared.names.Found.TheVariants as finds
 use Rattle.qml_syntax.specs.Tree.{Units}
-use Rattle.qml_value.specs.declared.value.Value.{Value, Object as AnObject, Component as AComponent}
+use Rattle.qml_value.specs.declared.value.Value.{Object as AnObject, Component as AComponent}
 use Rattle.qml_types.specs.declared.kind.TypeNo.{TypeNo}
 use Rattle.qml_types.specs.declared.kind.TypeNo.TheVariants as no
-use Rattle.qml_types.specs.declared.kind.TypeRef.{TypeRef}
-use Rattle.qml_types.specs.declared.kind.TypeRef.TheVariants.{Builtin, Document as OfDocument}
 use Rattle.program_names.specs.Layers.{same_type}
 use Rattle.qml_scope.specs.Names.{under}
 use Rattle.qml_scope.specs.Shapes.{Known, first_of, same_object, told_anywhere, types_among}
 use Rattle.unit_rows.specs.Rows.{ChangeRow}
 use Rattle.unit_rows.specs.Given.{cell_given, builtin_among}
-use Rattle.instance_plans.specs.Numbers.{AllRows, PlannedInstance, Planned, Plan, row_at, documents_of, builtin_planned, builtin_at, planned_at, cell_no, object_no}
+use Rattle.instance_plans.specs.Numbers.{AllRows, PlannedInstance, Planned, Plan, row_at, documents_of, builtin_planned, planned_at, cell_no}
 use Rattle.instance_plans.specs.Contents.{Content, plain, GivenCell, given_in, content_of}
 use Rattle.instance_plans.specs.NamesMade.{ObjectNames, InstanceNames}
 

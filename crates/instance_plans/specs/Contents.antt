@@ -1,5 +1,5 @@
 -- What the cells of the objects of a plan are given. Of several values for one cell that of the outer document counts.
-use Rattle.std.specs.Prelude.{ℕ, zero, suc, Bool, true, false, not, ◌&&◌, ◌||◌, nat_eq, if◌then◌else◌, List, [], ◌∷◌, ◌++◌, map, length, codes, decimal, is_some, Option, Some, None}
+use Rattle.std.specs.Prelude.{ℕ, zero, suc, Bool, true, false, not, ◌&&◌, ◌||◌, nat_eq, if◌then◌else◌, List, [], ◌∷◌, ◌++◌, length, codes, decimal, Option, Some, None}
 use Rattle.std.specs.Option.{option_map, option_or, unwrap_or, is_none, option_and_then}
 use Rattle.std.specs.List.{flat_map, filter_map, list_any}
 use Rattle.qml_base.specs.declared.numbers.ObjNo.{ObjNo}

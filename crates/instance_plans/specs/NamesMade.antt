@@ -14,7 +14,7 @@ use Rattle.qml_types.specs.declared.kind.TypeNo.{TypeNo}
 use Rattle.qml_types.specs.declared.kind.TypeNo.TheVariants as no
 use Rattle.qml_types.specs.declared.kind.TypeRef.{TypeRef}
 use Rattle.program_names.specs.Layers.{names_of_type}
-use Rattle.unit_rows.specs.Rows.{SignalRef, change_of, own_signal, NameFinds, finds_cell, finds_signal, finds_function, finds_method, finds_object, finds_cell_of, NameRow}
+use Rattle.unit_rows.specs.Rows.{SignalRef, change_of, own_signal, finds_cell, finds_signal, finds_function, finds_method, finds_object, finds_cell_of, NameRow}
 use Rattle.unit_rows.specs.NamesOfObjects.{rows_of_type}
 use Rattle.instance_plans.specs.Numbers.{AllRows, PlannedInstance, Plan, row_at, component_at, number_in, number_of, planned_instance, documents_of, builtin_of, is_component_at, object_no, cell_no, unit_no}
 use Rattle.instance_plans.specs.Contents.{has_row}

@@ -1,7 +1,7 @@
 -- What making gives: of an object as written, in the instance around it, from a number on.
 use Rattle.std.specs.Prelude.{ℕ, nat_le, Bool, true, false, if◌then◌else◌, List, [], ◌∷◌, ◌++◌, map, length, Option, Some, None, Result, Ok, Err}
 use Rattle.std.specs.Str.{bytes_eq}
-use Rattle.std.specs.Option.{option_map, option_or, unwrap_or, option_and_then}
+use Rattle.std.specs.Option.{option_or, unwrap_or, option_and_then}
 use Rattle.std.specs.List.{flat_map, filter_map, find}
 use Rattle.qml_base.specs.declared.numbers.CellNo.{CellNo}
 use Rattle.qml_base.specs.declared.names.Found.{Found}
@@ -12,7 +12,7 @@ use Rattle.qml_types.specs.Table.{lineage, is_writable}
 use Rattle.qml_types.specs.declared.kind.Access.{Access}
 use Rattle.program_names.specs.Layers.{names_of_type}
 use Rattle.qml_scope.specs.Shapes.{Known}
-use Rattle.unit_rows.specs.Rows.{ObjectRow, NameRow, NameFinds, finds_cell, finds_object, finds_cell_of}
+use Rattle.unit_rows.specs.Rows.{ObjectRow, NameRow, finds_cell, finds_object, finds_cell_of}
 use Rattle.unit_rows.specs.NamesOfObjects.{rows_of_type}
 use Rattle.unit_rows.specs.Given.{cell_given}
 use Rattle.instance_plans.specs.Numbers.{AllRows, PlannedInstance, Plan, row_at, documents_of, builtin_of, builtin_at, planned_from, planned_instance}

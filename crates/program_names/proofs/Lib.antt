@@ -1,1 +1,2 @@
+pub mod ExampleFiles
 mod ReadingLemmas
