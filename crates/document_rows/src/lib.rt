@@ -4,10 +4,12 @@
 #![tactic(auto)]
 
 mod kind;
+mod laws;
 mod rows;
 #[cfg(test)]
 mod tests;
 mod walk;
 
+pub use laws::members_have_whole_paths;
 pub use rows::{DocumentRows, MemberRow, ObjectRow};
 pub use walk::document_rows;
