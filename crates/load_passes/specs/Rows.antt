@@ -1,5 +1,5 @@
 -- The rows that the searches go over, and the faults that they give.
-use Rattle.std.specs.Prelude.{ℕ, suc, Bool, true, ◌&&◌, not, nat_eq, List, [], ◌∷◌, ◌++◌}
+use Rattle.std.specs.Prelude.{ℕ, suc, Bool, true, ◌&&◌, not, nat_eq, List, [], ◌∷◌, ◌++◌, map}
 use Rattle.std.specs.Str.{bytes_eq}
 use Rattle.std.specs.List.{flat_map, list_any}
 use Rattle.qml_base.specs.declared.load_cause.LoadCause.{LoadCause}
@@ -10,9 +10,9 @@ use Rattle.program_names.specs.Written.{WrittenObject, WrittenMember, a_value, a
 use Rattle.program_names.specs.Loaded.{Program, unit_at}
 use Rattle.program_names.specs.Layers.{DefaultProperty, to_property, default_of}
 use Rattle.program_names.specs.PathMeanings.{here, PathMeaning, a_property_of, an_object_of, meaning_of_path}
-use Rattle.program_names.specs.Components.{Roots, Id, root_of}
+use Rattle.program_names.specs.Components.{Roots, Id, ids_written, root_of}
 use Rattle.load_faults.specs.Faults.{Faults, fault_if, place_of_value, Purpose, for_role, by_path, purpose_of}
-use Rattle.load_faults.specs.Properties.{may_be_given, is_literal_access, is_literal_value}
+use Rattle.load_faults.specs.Properties.{may_be_given, is_literal_access, is_literal_value, read_only_values, not_literals}
 use Rattle.load_passes.specs.declared.repeated.NameRow.{NameRow}
 use Rattle.load_passes.specs.declared.values.ValueRow.{ValueRow}
 
@@ -29,6 +29,10 @@ repeated why seen (r ∷ rest) = fault_if (list_any (same_name r) seen) r.at why
 -- an id belongs to the component of its object
 abbrev pub id_row : Program → Roots → ℕ → Id → NameRow
 id_row p roots d i = record { name = i.name; owner = root_of p roots d i.object; at = i.at }
+
+-- the ids of a document
+abbrev pub id_faults : Program → Roots → ℕ → Faults
+id_faults p roots d = repeated cause.DuplicateId [] (map (id_row p roots d) (ids_written p d))
 
 -- ---- values
 
@@ -77,3 +81,7 @@ rows_from p roots d o (w ∷ rest) = flat_map (rows_of_member p roots d o) w.mem
 -- the values of a document
 abbrev pub value_rows : Program → Roots → ℕ → List ValueRow
 value_rows p roots d = rows_from p roots d 0 (unit_at p d).objects
+
+-- those that the definitions of the two causes give
+abbrev pub faults_by_cause : Program → Roots → ℕ → Faults
+faults_by_cause p roots d = read_only_values p roots d ++ not_literals p roots d
