@@ -51,9 +51,13 @@ abbrev pub task_of : Table → Parts → ℕ → Task
 task_of t (parts.Members o around) p = task.Member (member_place t p) o around
 task_of t (parts.Objects row) p = task.Object (record { node = p; row = Some row })
 
--- the tasks of the parts behind the mark, the last part first
+-- the tasks of the places behind the mark, the last place first
+abbrev pub place_tasks : Table → Parts → List ℕ → List Task
+place_tasks t what ps = map (task_of t what) (until_mark t (reverse ps))
+
+-- those of the parts of a node
 abbrev pub part_tasks : Table → Parts → ℕ → List Task
-part_tasks t what p = map (task_of t what) (until_mark t (reverse (places_of t p)))
+part_tasks t what p = place_tasks t what (places_of t p)
 
 abbrev pub value_tasks_by : Table → ℕ → ℕ → Kind → List Task
 value_tasks_by t row p kind.Object = task.Object (record { node = p; row = Some row }) ∷ []

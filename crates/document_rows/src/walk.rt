@@ -1,9 +1,9 @@
 //! Going through a tree in the order of writing.
 
-ghost use Rattle.std.specs.Prelude.{◌≡◌, ◌++◌, map, reverse, length, IfOk, OnOk};
+ghost use Rattle.std.specs.Prelude.{◌≡◌, ◌++◌, IfOk, OnOk};
 ghost use Rattle.qml_syntax.specs.Places.{places_of};
 ghost use Rattle.document_rows.specs.Entries.{IsDocument, AreRows};
-ghost use Rattle.document_rows.specs.Walk.{until_mark, task_of as task_of_place, value_tasks, inside_tasks, Steps};
+ghost use Rattle.document_rows.specs.Walk.{place_tasks, task_of as task_of_place, value_tasks, inside_tasks, Steps};
 
 use crate::kind::{Kind, kind_at, member_place};
 use crate::rows::{DocumentRows, MemberRow, ObjectRow};
@@ -160,7 +160,7 @@ fn push_parts(
     parts: &mut Vec<usize>,
     tasks: &mut Vec<Task>,
 ) -> Result<(), NoMemory>
-    ensures { OnOk result (tasks.new.items ≡ tasks.old.items ++ map (task_of_place tree.now what) (until_mark tree.now (reverse parts.old.items))) }
+    ensures { OnOk result (tasks.new.items ≡ tasks.old.items ++ place_tasks tree.now what parts.old.items) }
 {
     'parts: while let Some(part) = parts.pop() {
         if kind_at(tree, part) == Kind::Mark {

@@ -75,7 +75,7 @@ SameFirst kept some others = first_from kept some ≡ first_from kept others
 
 -- ---- going through a document
 
-abbrev objects_from : ℕ → List WrittenObject → (ℕ → WrittenObject → Faults) → Faults
+abbrev pub objects_from : ℕ → List WrittenObject → (ℕ → WrittenObject → Faults) → Faults
 objects_from o [] f = []
 objects_from o (w ∷ rest) f = f o w ++ objects_from (suc o) rest f
 

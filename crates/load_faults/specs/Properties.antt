@@ -74,20 +74,20 @@ may_be_given Literal own = own
 may_be_given Id own = own
 may_be_given _ own = false
 
-abbrev read_only_by : Place → PathMeaning → Faults
+abbrev pub read_only_by : Place → PathMeaning → Faults
 read_only_by at (an_object_of s) = fault_at at cause.ReadOnly
 read_only_by at (a_property_of way place k a own) = fault_if (not (may_be_given a own)) at cause.ReadOnly
 read_only_by at _ = []
 
-abbrev read_only_value : Place → Purpose → Faults
+abbrev pub read_only_value : Place → Purpose → Faults
 read_only_value at (by_path s) = read_only_by at s
 read_only_value at _ = []
 
-abbrev read_only_child : Program → Roots → ℕ → ℕ → Place → DefaultProperty → Faults
+abbrev pub read_only_child : Program → Roots → ℕ → ℕ → Place → DefaultProperty → Faults
 read_only_child p roots d o at (to_property n) = read_only_by at (meaning_of_path p roots (here d o) (n ∷ []))
 read_only_child p roots d o at _ = []
 
-abbrev read_only_member : Program → Roots → ℕ → ℕ → WrittenMember → Faults
+abbrev pub read_only_member : Program → Roots → ℕ → ℕ → WrittenMember → Faults
 read_only_member p roots d o (a_value at path v) = read_only_value at (purpose_of p roots d o path)
 read_only_member p roots d o (a_child at n) = read_only_child p roots d o at (default_of p d o)
 read_only_member p roots d o _ = []
@@ -97,7 +97,7 @@ read_only_values p roots d = each_member p d (read_only_member p roots d)
 
 -- ---- NotLiteral: what has to be a literal and isn't
 
-abbrev is_literal_value : WrittenValue → Bool
+abbrev pub is_literal_value : WrittenValue → Bool
 is_literal_value (by_stmt s) = is_literal s
 is_literal_value _ = false
 
@@ -105,12 +105,12 @@ abbrev pub is_literal_access : Access → Bool
 is_literal_access Literal = true
 is_literal_access _ = false
 
-abbrev wants_literal : Purpose → Bool
+abbrev pub wants_literal : Purpose → Bool
 wants_literal for_role = true
 wants_literal (by_path (a_property_of way place k a own)) = own && is_literal_access a
 wants_literal _ = false
 
-abbrev not_literal_member : Program → Roots → ℕ → ℕ → WrittenMember → Faults
+abbrev pub not_literal_member : Program → Roots → ℕ → ℕ → WrittenMember → Faults
 not_literal_member p roots d o (a_value at path v) =
     fault_if (wants_literal (purpose_of p roots d o path) && not (is_literal_value v)) (place_of_value p d v) cause.NotLiteral
 not_literal_member p roots d o _ = []

@@ -10,6 +10,6 @@ mod tests;
 mod values;
 
 pub use best::Best;
-pub use laws::ids_as_rows;
+pub use laws::{ids_as_rows, values_as_rows};
 pub use repeated::{NameRow, tell_repeated};
 pub use values::{ValueRow, tell_values};

@@ -19,8 +19,8 @@ pub struct NameRow {
     pub at: Place,
 }
 
-/// Tells, with this cause, each name that stands a second time for its owner among these rows, in their order. A set finds
-/// a name in constant time on average.
+/// Tells, with this cause, each name that stands a second time for its owner among these rows, in their order. A set
+/// finds a name in constant time on average.
 pub fn tell_repeated(
     alloc: Global,
     rows: &[NameRow],

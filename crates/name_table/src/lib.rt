@@ -1,5 +1,5 @@
-//! Names with what stands under each, found by hashing. Contracts see them as a list, in which the first of a name counts.
-//! It promises that finding a name is finding it in that list.
+//! Names with what stands under each, found by hashing. Contracts see them as a list, in which the first of a name
+//! counts. It promises that finding a name is finding it in that list.
 #![tactic(auto)]
 
 ghost use Rattle.std.specs.Prelude.{◌≡◌, [], length, OnOk, OnErr};

@@ -1,5 +1,5 @@
 -- How the files of a program are found and read: breadth first, in the order of first mention, up to the first fault.
-use Rattle.std.specs.Prelude.{◌≡◌, ◌≢◌, ℕ, zero, suc, ◌+◌, Bool, true, false, not, ◌&&◌, ◌||◌, nat_lt, if◌then◌else◌, List, [], ◌∷◌, ◌++◌, Option, Some, None}
+use Rattle.std.specs.Prelude.{◌≡◌, ◌≢◌, Contains, ℕ, zero, suc, ◌+◌, Bool, true, false, not, ◌&&◌, ◌||◌, nat_lt, if◌then◌else◌, List, [], ◌∷◌, ◌++◌, Option, Some, None}
 use Rattle.std.specs.Str.{bytes_eq}
 use Rattle.std.specs.Option.{option_and_then}
 use Rattle.std.specs.List.{list_any, filter_map}
@@ -179,3 +179,24 @@ abbrev pub OneEnd : (File → ReadFile) → ℕ → ℕ → List File → List F
 OneEnd read n m done queue =
     reading read n done queue ≢ unfinished → reading read m done queue ≢ unfinished →
     reading read n done queue ≡ reading read m done queue
+
+abbrev pub asked_behind : (List File → List File) → ReadFile → List File
+asked_behind go_on (refused_by f) = []
+asked_behind go_on (mentioning files) = go_on files
+
+-- the files that are read on the way
+abbrev pub asked : (File → ReadFile) → ℕ → List File → List File → List File
+asked read n done [] = []
+asked read zero done (file ∷ queue) = []
+asked read (suc n) done (file ∷ queue) =
+    file ∷
+    asked_behind (λ files. asked read n (done ++ file ∷ []) (queued (done ++ file ∷ []) queue files)) (read file)
+
+-- of these files both tell the same
+abbrev pub AgreeOn : (File → ReadFile) → (File → ReadFile) → List File → Type 0
+AgreeOn read other files = (file : File) → Contains files file → read file ≡ other file
+
+-- where both tell the same of the files that are read on the way, reading ends in the same way
+abbrev pub SameEnd : (File → ReadFile) → (File → ReadFile) → ℕ → List File → List File → Type 0
+SameEnd read other n done queue =
+    AgreeOn read other (asked read n done queue) → reading read n done queue ≡ reading other n done queue

@@ -8,4 +8,4 @@ mod fault;
 mod laws;
 
 pub use fault::Fault;
-pub use laws::reading_ends_one_way;
+pub use laws::{reading_asks_for_no_other_file, reading_ends_one_way};

@@ -1,5 +1,5 @@
-//! Reads the files of a program breadth first, in the order of first mention, up to the first that is refused. How a file is
-//! read is told by a trait. It promises that reading ends as the definition of `program_names` says, with each file read once.
+//! Reads the files of a program breadth first, in the order of first mention, up to the first that is refused. How a file
+//! is read is told by a trait. It promises that reading ends as the definition of `program_names` says.
 #![tactic(auto)]
 
 ghost use Rattle.std.specs.Prelude.{◌≡◌, IfOk, OnOk};
@@ -14,8 +14,8 @@ use indexmap::IndexSet;
 use qml_base::NoMemory;
 use std::alloc::Global;
 
-/// Reads a document and all files that it mentions, through others too, each once. Where that has no end within 4,294,967,295
-/// files there is no memory for them. However it ends, the reader tells of no file otherwise than before.
+/// Reads a document and all files that it mentions, through others too, each once. Where that has no end within
+/// 4,294,967,295 files there is no memory for them. However it ends, the reader tells of no file otherwise than before.
 pub fn read_all<R: Reader>(alloc: Global, reader: &mut R, root: File) -> Result<Ended, NoMemory>
     ensures { IfOk result (λ end. IsEnd (R.read reader.old) (file_value root) end) }
 {
