@@ -183,9 +183,9 @@ const EXPRESSIONS: [(&str, &str); 142] = [
     ("item.get(1)", "'11' reads rows"),
     ("item.get(2)", "undefined reads rows"),
     ("item.get('a')", "Threw Kind"),
+    ("'a,b,c'.split(',', 2)", "[a,b]"),
+    ("[1, null, [2, 3]].join('-')", "'1--2,3'"),
     // not there yet
-    ("'a,b'.split(',')", "NoMemory"),
-    ("[1, 2].join('-')", "NoMemory"),
     ("{ k: 1 }", "NoMemory"),
 ];
 

@@ -26,14 +26,16 @@ pub fn one_statement()
 /// At most one list of statements reads given tokens.
 #[tactic(auto, using(crate::proofs::Exact::one_body))]
 pub fn one_body()
-    ensures { (tokens : List Token) (d e : Stmts) → ReadsStmts false d tokens [] → ReadsStmts false e tokens [] → d ≡ e }
+    ensures { (tokens : List Token) (d e : Stmts) →
+        ReadsStmts false d tokens [] → ReadsStmts false e tokens [] → d ≡ e }
 {}
 
 /// The machine stops at the first token with which no read prefix goes on, and gives the tree that reads the tokens
 /// before it, or none where no tree does.
 #[tactic(auto, using(crate::proofs::Exact::exact))]
 pub fn machine_is_exact()
-    ensures { (y : Entry) (tokens : List Token) → IsAnswer y tokens (go tokens (start_of y)).tree (go tokens (start_of y)).rest }
+    ensures { (y : Entry) (tokens : List Token) →
+        IsAnswer y tokens (go tokens (start_of y)).tree (go tokens (start_of y)).rest }
 {}
 
 /// Among the tokens of a file the machine gives, at each place, the tree of the longest read front and where it ends;
@@ -41,7 +43,8 @@ pub fn machine_is_exact()
 /// tree with a node deeper than 100, at the first token of the first such node. So `Syntax` is told before `TooDeep`.
 #[tactic(auto, using(crate::proofs::Fronts::front_answer))]
 pub fn machine_answers_at_each_place()
-    ensures { (y : Entry) (tokens : List Token) (from : ℕ) → AreWhole tokens → from < length tokens → FrontAnswer IsSame y tokens from (parse_of y tokens from) }
+    ensures { (y : Entry) (tokens : List Token) (from : ℕ) →
+        AreWhole tokens → from < length tokens → FrontAnswer IsSame y tokens from (parse_of y tokens from) }
 {}
 
 /// Nodes of the parts that are made and frames for what is open, moved by one token at a time, end where the machine
@@ -54,7 +57,8 @@ pub fn kept_states_end_as_the_machine()
 /// Closing some of what is open leaves the whole as it was: closing all of it then gives what closing all at once gives.
 #[tactic(auto, using(crate::proofs::Again::closed_stays))]
 pub fn closing_leaves_the_whole()
-    ensures { (i : ℕ) (fs : Open) (s : Table) (tight : ℕ) (target : Bool) → closed_again (close_at i fs s tight target) ≡ close_at 0 fs s tight target }
+    ensures { (i : ℕ) (fs : Open) (s : Table) (tight : ℕ) (target : Bool) →
+        closed_again (close_at i fs s tight target) ≡ close_at 0 fs s tight target }
 {}
 
 /// Statements that have been ended stay ended as they were.

@@ -2,3 +2,5 @@ mod MemberLemmas
 mod WeightLemmas
 mod SearchLemmas
 mod MethodLemmas
+mod JoinLemmas
+mod SplitLemmas

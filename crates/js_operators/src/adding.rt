@@ -13,7 +13,7 @@ use qml_value::{TextOfFault, Value};
 use std::alloc::Global;
 
 /// The most units of a text that is not too heavy: it weighs one more.
-const MOST_UNITS: usize = 1_048_575;
+pub(crate) const MOST_UNITS: usize = 1_048_575;
 
 /// Two texts in one.
 fn glued(alloc: Global, a: &Text, b: &Text) -> Result<Text, NoMemory>

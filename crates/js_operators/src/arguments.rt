@@ -68,7 +68,8 @@ pub(crate) fn from_end(size: usize, z: i64) -> usize
 
 /// The number that an argument is, or this one where it is absent.
 pub(crate) fn number_or(value: &Value, absent: i64) -> Option<i64>
-    ensures { MatchOption result ((go : ℤ → E) → with_number_or absent value.now go ≡ threw_kind) (λ z. (go : ℤ → E) → with_number_or absent value.now go ≡ go z) }
+    ensures { MatchOption result ((go : ℤ → E) → with_number_or absent value.now go ≡ threw_kind)
+        (λ z. (go : ℤ → E) → with_number_or absent value.now go ≡ go z) }
 {
     match value {
         Value::Undefined => Some(absent),
@@ -111,8 +112,10 @@ pub(crate) fn place_or(found: Option<usize>) -> Result<Ended, NoMemory>
 /// The value at a place, if there is one.
 #[tactic(auto, using(crate::proofs::MethodLemmas::at_inside, crate::proofs::MethodLemmas::at_outside, crate::proofs::MethodLemmas::item_inside, crate::proofs::MethodLemmas::item_outside))]
 pub(crate) fn value_in(values: &[Value], at: u64) -> Option<&Value>
-    ensures place { MatchOption result (at_place values.now at ≡ Value.Undefined) (λ v. at_place values.now at ≡ v.now) }
-    ensures item { MatchOption result (item_or_null values.now at ≡ Value.Null) (λ v. item_or_null values.now at ≡ v.now) }
+    ensures place { MatchOption result
+        (at_place values.now at ≡ Value.Undefined) (λ v. at_place values.now at ≡ v.now) }
+    ensures item { MatchOption result
+        (item_or_null values.now at ≡ Value.Null) (λ v. item_or_null values.now at ≡ v.now) }
 {
     if at < values.len() as u64 {
         Some(&values[at as usize])

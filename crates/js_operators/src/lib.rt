@@ -1,6 +1,6 @@
 //! Operators and reading methods over values that are there (ECMA-262, 13 and 21 to 23), and of what hidden cells hold. Each
 //! call gives what `specs/Operate.antt`, `specs/Methods.antt` and `specs/Looking.antt` of `js_meaning` say, and want of
-//! memory is its only other answer. `split` of a text and `join` of a list aren't there yet, and answer that.
+//! memory is its only other answer.
 #![tactic(auto)]
 
 mod adding;
@@ -8,6 +8,7 @@ mod arguments;
 mod bits;
 mod conditions;
 mod heavy;
+mod joining;
 mod list_methods;
 mod mathematics;
 mod members;
@@ -18,6 +19,7 @@ mod operating;
 mod orders;
 mod prefixes;
 mod searching;
+mod splitting;
 mod text_methods;
 mod texts;
 

@@ -7,6 +7,7 @@ ghost use Rattle.js_meaning.specs.Methods.{with_number_or, from_end, part, value
 
 use crate::arguments::{from_end, number_or, place_in, place_or, size_number, value_in};
 use crate::heavy::weighed_list;
+use crate::joining::join;
 use crate::members::copied;
 use crate::naming::named;
 use crate::searching::value_from;
@@ -18,7 +19,8 @@ use std::alloc::Global;
 
 /// `indexOf` (ECMA-262, 23.1.3.17).
 fn index_of(values: &[Value], sought: &Value, from: &Value) -> Result<Ended, NoMemory>
-    ensures { IfOk result (λ e. e ≡ with_number_or (pos 0) from.now (λ z. place_or (value_from sought.now values.now (from_end (length values.now) z)))) }
+    ensures { IfOk result (λ e. e ≡ with_number_or
+        (pos 0) from.now (λ z. place_or (value_from sought.now values.now (from_end (length values.now) z)))) }
 {
     let Some(z) = number_or(from, 0) else {
         return Ok(Ended::Threw(Cause::Kind));
@@ -29,7 +31,8 @@ fn index_of(values: &[Value], sought: &Value, from: &Value) -> Result<Ended, NoM
 
 /// `includes` (ECMA-262, 23.1.3.16).
 fn includes(values: &[Value], sought: &Value, from: &Value) -> Ended
-    ensures { result ≡ with_number_or (pos 0) from.now (λ z. truth (is_found (value_from sought.now values.now (from_end (length values.now) z)))) }
+    ensures { result ≡ with_number_or
+        (pos 0) from.now (λ z. truth (is_found (value_from sought.now values.now (from_end (length values.now) z)))) }
 {
     let Some(z) = number_or(from, 0) else {
         return Ended::Threw(Cause::Kind);
@@ -80,7 +83,9 @@ fn list_of(values: Vec<Value>) -> Result<Ended, NoMemory>
 
 /// `slice` (ECMA-262, 23.1.3.28).
 fn slice(alloc: Global, values: &[Value], from: &Value, to: &Value) -> Result<Ended, NoMemory>
-    ensures { IfOk result (λ e. e ≡ with_number_or (pos 0) from.now (λ a. with_number_or (pos (length values.now)) to.now (λ b. Ended.Value (list_value (part (from_end (length values.now) a) (from_end (length values.now) b) values.now))))) }
+    ensures { IfOk result (λ e.
+        e ≡ with_number_or (pos 0) from.now (λ a. with_number_or (pos (length values.now)) to.now (λ b. Ended.Value
+        (list_value (part (from_end (length values.now) a) (from_end (length values.now) b) values.now))))) }
 {
     let size = size_number(values.len())?;
     let Some(a) = number_or(from, 0) else {
@@ -101,7 +106,8 @@ fn slice(alloc: Global, values: &[Value], from: &Value, to: &Value) -> Result<En
 /// The values of a list.
 #[tactic(auto, using(crate::proofs::MethodLemmas::flat_list))]
 fn values_in(value: &Value) -> Option<&[Value]>
-    ensures { MatchOption result (flattened (value.now ∷ []) ≡ value.now ∷ []) (λ values. flattened (value.now ∷ []) ≡ values.now) }
+    ensures { MatchOption result
+        (flattened (value.now ∷ []) ≡ value.now ∷ []) (λ values. flattened (value.now ∷ []) ≡ values.now) }
 {
     match value {
         Value::List(list) => Some(list.parts()),
@@ -153,19 +159,21 @@ fn concat(alloc: Global, values: &[Value], others: &[Value]) -> Result<Ended, No
     Ok(weighed_list(copies))
 }
 
-/// The methods that go over the whole list. `join` isn't there yet: the answer is want of memory.
+/// The methods that go over the whole list, with its arguments, of which this is the first.
 fn whole_method(
     alloc: Global,
     values: &[Value],
     name: &Text,
     arguments: &[Value],
+    first: &Value,
 ) -> Result<Ended, NoMemory>
+    requires { first.now ≡ at_place arguments.now 0 }
     ensures { IfOk result (λ e. e ≡ list_whole values.now name.now arguments.now) }
 {
     if named(name, b"concat") {
         concat(alloc, values, arguments)
     } else if named(name, b"join") {
-        Err(NoMemory)
+        join(alloc, values, first)
     } else {
         Ok(Ended::Threw(Cause::Call))
     }
@@ -191,7 +199,7 @@ pub(crate) fn list_method(
     } else if named(name, b"slice") {
         slice(alloc, values, first, second)
     } else {
-        whole_method(alloc, values, name, arguments)
+        whole_method(alloc, values, name, arguments, first)
     }
 }
 

@@ -48,7 +48,8 @@ fn greatest_of(first: Num, values: &[Value]) -> Ended
 
 /// The number that a value is.
 fn number_in(value: &Value) -> Option<Num>
-    ensures { MatchOption result ((go : ℤ → E) → with_number value.now go ≡ Ended.Threw Cause.Kind) (λ n. value.now ≡ Value.Num n) }
+    ensures { MatchOption result
+        ((go : ℤ → E) → with_number value.now go ≡ Ended.Threw Cause.Kind) (λ n. value.now ≡ Value.Num n) }
 {
     match value {
         Value::Num(n) => Some(*n),

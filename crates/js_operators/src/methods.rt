@@ -18,7 +18,8 @@ use std::alloc::Global;
 
 /// A number's `toString`, without a radix (ECMA-262, 21.1.3.6).
 fn number_method(alloc: Global, value: &Value, name: &Text) -> Result<Ended, NoMemory>
-    ensures { IfOk result (λ e. e ≡ (if same_units name.now (codes "toString") then weighed (Value.Text (text_of value.now)) else Ended.Threw Cause.Call)) }
+    ensures { IfOk result (λ e. e ≡ (if same_units name.now
+        (codes "toString") then weighed (Value.Text (text_of value.now)) else Ended.Threw Cause.Call)) }
 {
     if named(name, b"toString") {
         text_value(alloc, value)
@@ -27,8 +28,7 @@ fn number_method(alloc: Global, value: &Value, name: &Text) -> Result<Ended, NoM
     }
 }
 
-/// A reading method of a value that is no object, with its arguments; one that the value doesn't have throws `call`. A text's
-/// `split` and a list's `join` aren't there yet: their answer is want of memory.
+/// A reading method of a value that is no object, with its arguments; one that the value doesn't have throws `call`.
 #[tactic(auto, using(crate::proofs::MethodLemmas::method_of_list))]
 pub fn method(
     alloc: Global,

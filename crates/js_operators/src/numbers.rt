@@ -22,7 +22,8 @@ pub(crate) fn within(n: i128) -> Ended
 
 /// Two numbers, if both values are.
 pub(crate) fn both_numbers(left: &Value, right: &Value) -> Option<(i64, i64)>
-    ensures { MatchOption result ((f : ℤ → ℤ → Ended) → on_nums f left.now right.now ≡ threw_kind) (λ p. (f : ℤ → ℤ → Ended) → on_nums f left.now right.now ≡ f p.0 p.1) }
+    ensures { MatchOption result ((f : ℤ → ℤ → Ended) → on_nums f left.now right.now ≡ threw_kind)
+        (λ p. (f : ℤ → ℤ → Ended) → on_nums f left.now right.now ≡ f p.0 p.1) }
 {
     match (left, right) {
         (Value::Num(a), Value::Num(b)) => Some((a.get(), b.get())),

@@ -19,7 +19,8 @@ use std::alloc::Global;
 
 /// The 32 low bits of two numbers, if both values are numbers.
 fn both_bits(left: &Value, right: &Value) -> Option<(u32, u32)>
-    ensures { MatchOption result ((f : ℕ → ℕ → ℤ) → on_bits f left.now right.now ≡ threw_kind) (λ p. (f : ℕ → ℕ → ℤ) → on_bits f left.now right.now ≡ bounded (f p.0 p.1)) }
+    ensures { MatchOption result ((f : ℕ → ℕ → ℤ) → on_bits f left.now right.now ≡ threw_kind)
+        (λ p. (f : ℕ → ℕ → ℤ) → on_bits f left.now right.now ≡ bounded (f p.0 p.1)) }
 {
     match (left, right) {
         (Value::Num(a), Value::Num(b)) => Some((low_bits(a.get()), low_bits(b.get()))),

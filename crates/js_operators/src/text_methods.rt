@@ -7,6 +7,7 @@ ghost use Rattle.js_meaning.specs.Methods.{with_number_or, with_text, clamped, f
 use crate::arguments::{clamped, from_end, number_or, place_in, place_or, size_number};
 use crate::naming::named;
 use crate::searching::{ends_with, found_from};
+use crate::splitting::split;
 use crate::texts::begins_with;
 use evaluation::Ended;
 use qml_base::Cause;
@@ -29,7 +30,9 @@ fn part_of(alloc: Global, text: &Text, from: usize, to: usize) -> Result<Text, N
 
 /// `slice` (ECMA-262, 22.1.3.22).
 fn slice(alloc: Global, text: &Text, from: &Value, to: &Value) -> Result<Ended, NoMemory>
-    ensures { IfOk result (λ e. e ≡ with_number_or (pos 0) from.now (λ a. with_number_or (pos (length text.now)) to.now (λ b. Ended.Value (Value.Text (part (from_end (length text.now) a) (from_end (length text.now) b) text.now))))) }
+    ensures { IfOk result
+        (λ e. e ≡ with_number_or (pos 0) from.now (λ a. with_number_or (pos (length text.now)) to.now (λ b.
+        Ended.Value (Value.Text (part (from_end (length text.now) a) (from_end (length text.now) b) text.now))))) }
 {
     let size = size_number(text.len())?;
     let Some(a) = number_or(from, 0) else {
@@ -65,7 +68,8 @@ fn between(alloc: Global, text: &Text, a: usize, b: usize) -> Result<Ended, NoMe
 
 /// `substring` (ECMA-262, 22.1.3.25).
 fn substring(alloc: Global, text: &Text, from: &Value, to: &Value) -> Result<Ended, NoMemory>
-    ensures { IfOk result (λ e. e ≡ with_number_or (pos 0) from.now (λ a. with_number_or (pos (length text.now)) to.now (λ b. between text.now (clamped (length text.now) a) (clamped (length text.now) b)))) }
+    ensures { IfOk result (λ e. e ≡ with_number_or (pos 0) from.now (λ a. with_number_or (pos (length text.now)) to.now
+        (λ b. between text.now (clamped (length text.now) a) (clamped (length text.now) b)))) }
 {
     let size = size_number(text.len())?;
     let Some(a) = number_or(from, 0) else {
@@ -94,7 +98,8 @@ fn char_in(alloc: Global, text: &Text, z: i64) -> Result<Text, NoMemory>
 
 /// `charAt` (ECMA-262, 22.1.3.2).
 fn char_at(alloc: Global, text: &Text, at: &Value) -> Result<Ended, NoMemory>
-    ensures { IfOk result (λ e. e ≡ with_number_or (pos 0) at.now (λ z. Ended.Value (Value.Text (char_at text.now z)))) }
+    ensures { IfOk result
+        (λ e. e ≡ with_number_or (pos 0) at.now (λ z. Ended.Value (Value.Text (char_at text.now z)))) }
 {
     let Some(z) = number_or(at, 0) else {
         return Ok(Ended::Threw(Cause::Kind));
@@ -126,7 +131,8 @@ fn char_code_at(alloc: Global, text: &Text, at: &Value) -> Result<Ended, NoMemor
 
 /// `indexOf` (ECMA-262, 22.1.3.9).
 fn index_of(text: &Text, part: &Value, from: &Value) -> Result<Ended, NoMemory>
-    ensures { IfOk result (λ e. e ≡ with_text part.now (λ p. with_number_or (pos 0) from.now (λ z. place_or (found_from p text.now (clamped (length text.now) z))))) }
+    ensures { IfOk result (λ e. e ≡ with_text part.now
+        (λ p. with_number_or (pos 0) from.now (λ z. place_or (found_from p text.now (clamped (length text.now) z))))) }
 {
     let Value::Text(sought) = part else {
         return Ok(Ended::Threw(Cause::Kind));
@@ -140,7 +146,8 @@ fn index_of(text: &Text, part: &Value, from: &Value) -> Result<Ended, NoMemory>
 
 /// `includes` (ECMA-262, 22.1.3.8).
 fn includes(text: &Text, part: &Value, from: &Value) -> Ended
-    ensures { result ≡ with_text part.now (λ p. with_number_or (pos 0) from.now (λ z. truth (is_found (found_from p text.now (clamped (length text.now) z))))) }
+    ensures { result ≡ with_text part.now (λ p.
+        with_number_or (pos 0) from.now (λ z. truth (is_found (found_from p text.now (clamped (length text.now) z))))) }
 {
     let Value::Text(sought) = part else {
         return Ended::Threw(Cause::Kind);
@@ -157,7 +164,8 @@ fn includes(text: &Text, part: &Value, from: &Value) -> Ended
 
 /// `startsWith` (ECMA-262, 22.1.3.24).
 fn starts_with(text: &Text, part: &Value, from: &Value) -> Ended
-    ensures { result ≡ with_text part.now (λ p. with_number_or (pos 0) from.now (λ z. truth (begins_with p (drop (clamped (length text.now) z) text.now)))) }
+    ensures { result ≡ with_text part.now (λ p.
+        with_number_or (pos 0) from.now (λ z. truth (begins_with p (drop (clamped (length text.now) z) text.now)))) }
 {
     let Value::Text(sought) = part else {
         return Ended::Threw(Cause::Kind);
@@ -171,7 +179,8 @@ fn starts_with(text: &Text, part: &Value, from: &Value) -> Ended
 
 /// `endsWith` (ECMA-262, 22.1.3.7).
 fn ends_before(text: &Text, part: &Value, to: &Value) -> Result<Ended, NoMemory>
-    ensures { IfOk result (λ e. e ≡ with_text part.now (λ p. with_number_or (pos (length text.now)) to.now (λ z. truth (ends_with p (take (clamped (length text.now) z) text.now))))) }
+    ensures { IfOk result (λ e. e ≡ with_text part.now (λ p. with_number_or
+        (pos (length text.now)) to.now (λ z. truth (ends_with p (take (clamped (length text.now) z) text.now))))) }
 {
     let size = size_number(text.len())?;
     let Value::Text(sought) = part else {
@@ -184,7 +193,7 @@ fn ends_before(text: &Text, part: &Value, to: &Value) -> Result<Ended, NoMemory>
     Ok(Ended::Value(Value::Bool(ends_with(sought.units(), &text.units()[..end]))))
 }
 
-/// The methods that go over the whole text. `split` isn't there yet: the answer is want of memory.
+/// The methods that go over the whole text.
 fn whole_method(
     alloc: Global,
     text: &Text,
@@ -195,7 +204,7 @@ fn whole_method(
     ensures { IfOk result (λ e. e ≡ text_whole text.now name.now v.now w.now) }
 {
     if named(name, b"split") {
-        Err(NoMemory)
+        split(alloc, text, v, w)
     } else if named(name, b"toString") {
         let copy = text.copy(alloc)?;
         Ok(Ended::Value(Value::Text(copy)))

@@ -57,7 +57,8 @@ pub fn key(
 
 /// `}` where a statement could come.
 fn block(nodes: &mut Nodes, frames: &mut Stack) -> Result<Moved, NoMemory>
-    ensures { IfOk result (λ r. Moves (move_block frames.old nodes.old) (begun_whole frames.old nodes.old) frames.new nodes.new r) }
+    ensures { IfOk result
+        (λ r. Moves (move_block frames.old nodes.old) (begun_whole frames.old nodes.old) frames.new nodes.new r) }
 {
     match frames.pop() {
         Some(Frame::Block(place)) => {
@@ -84,7 +85,8 @@ fn expression(
     kind: &TokenKind,
     alloc: Global,
 ) -> Result<Moved, NoMemory>
-    ensures { IfOk result (λ r. Moves (move_need (f.Expression ∷ frames.old) nodes.old place kind.now) (begun_whole frames.old nodes.old) frames.new nodes.new r) }
+    ensures { IfOk result (λ r. Moves (move_need (f.Expression ∷ frames.old) nodes.old place kind.now)
+        (begun_whole frames.old nodes.old) frames.new nodes.new r) }
 {
     frames.push(Frame::Expression)?;
     let now = need(nodes, frames, place, kind, alloc)?;
@@ -105,7 +107,8 @@ fn mark(
     found: Mark,
     alloc: Global,
 ) -> Result<Moved, NoMemory>
-    ensures { IfOk result (λ r. Moves (move_begin frames.old nodes.old place (k.Mark found)) (begun_whole frames.old nodes.old) frames.new nodes.new r) }
+    ensures { IfOk result (λ r. Moves (move_begin frames.old nodes.old place (k.Mark found))
+        (begun_whole frames.old nodes.old) frames.new nodes.new r) }
 {
     match found {
         Mark::LeftBrace => {
@@ -149,7 +152,8 @@ fn word(
     found: Word,
     alloc: Global,
 ) -> Result<Moved, NoMemory>
-    ensures { IfOk result (λ r. Moves (move_begin frames.old nodes.old place (k.Word found)) (begun_whole frames.old nodes.old) frames.new nodes.new r) }
+    ensures { IfOk result (λ r. Moves (move_begin frames.old nodes.old place (k.Word found))
+        (begun_whole frames.old nodes.old) frames.new nodes.new r) }
 {
     match found {
         Word::If => {
@@ -179,7 +183,8 @@ pub fn begin(
     kind: &TokenKind,
     alloc: Global,
 ) -> Result<Moved, NoMemory>
-    ensures { IfOk result (λ r. Moves (move_begin frames.old nodes.old place kind.now) (begun_whole frames.old nodes.old) frames.new nodes.new r) }
+    ensures { IfOk result (λ r. Moves
+        (move_begin frames.old nodes.old place kind.now) (begun_whole frames.old nodes.old) frames.new nodes.new r) }
 {
     match kind {
         TokenKind::Mark(found) => mark(nodes, frames, place, *found, alloc),

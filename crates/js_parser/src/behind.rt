@@ -24,7 +24,8 @@ use std::alloc::Global;
 
 /// A token with which no read prefix goes on: the expression stays, with its steps, to be closed.
 fn stuck(nodes: &mut Nodes, have: Have) -> Result<Moved, NoMemory>
-    ensures { IfOk result (λ r. (fs : m.Open) → Moves None (kept_whole (tape nodes.old fs (n.Have have))) fs nodes.new r) }
+    ensures { IfOk result
+        (λ r. (fs : m.Open) → Moves None (kept_whole (tape nodes.old fs (n.Have have))) fs nodes.new r) }
 {
     flush(nodes, &have)?;
     Ok(Moved::Stuck(Rest::Closing(have.tight, have.target)))
@@ -39,7 +40,8 @@ fn begin_chain(
     tight: u8,
     target: bool,
 ) -> Result<Moved, NoMemory>
-    ensures { IfOk result (λ r. Moves (m.begin_chain operator place (m.closed nodes.now frames.old tight target)) (closed_whole (m.close_at 0 frames.old nodes.now tight target)) frames.new nodes.now r) }
+    ensures { IfOk result (λ r. Moves (m.begin_chain operator place (m.closed nodes.now frames.old tight target))
+        (closed_whole (m.close_at 0 frames.old nodes.now tight target)) frames.new nodes.now r) }
 {
     if operator.operand() <= tight && frames.admits(operator.level()) {
         frames.push(Frame::Chain(true, operator, place))?;
@@ -57,7 +59,9 @@ fn operator(
     operator: Operator,
     place: Place,
 ) -> Result<Moved, NoMemory>
-    ensures { IfOk result (λ r. Moves (m.move_operator operator place (m.close_at (l.level operator) frames.old (m.flushed have nodes.old) have.tight have.target)) (kept_whole (tape nodes.old frames.old (n.Have have))) frames.new nodes.new r) }
+    ensures { IfOk result (λ r. Moves (m.move_operator operator place
+        (m.close_at (l.level operator) frames.old (m.flushed have nodes.old) have.tight have.target))
+        (kept_whole (tape nodes.old frames.old (n.Have have))) frames.new nodes.new r) }
 {
     let (tight, target) = close_behind(nodes, frames, have, operator.level())?;
     match frames.pop() {
@@ -82,7 +86,9 @@ fn begin_choice(
     tight: u8,
     target: bool,
 ) -> Result<Moved, NoMemory>
-    ensures { IfOk result (λ r. Moves (if nat_le 2 tight && m.admits frames.old 1 then Some (tape nodes.now (f.Then true ∷ frames.old) n.Need) else None) (closed_whole (m.close_at 0 frames.old nodes.now tight target)) frames.new nodes.now r) }
+    ensures { IfOk result (λ r.
+        Moves (if nat_le 2 tight && m.admits frames.old 1 then Some (tape nodes.now (f.Then true ∷ frames.old) n.Need)
+        else None) (closed_whole (m.close_at 0 frames.old nodes.now tight target)) frames.new nodes.now r) }
 {
     if 2 <= tight && frames.admits(1) {
         frames.push(Frame::Then(true))?;
@@ -94,7 +100,8 @@ fn begin_choice(
 
 /// `?` (ECMA-262, 13.14 Conditional Operator).
 fn question(nodes: &mut Nodes, frames: &mut Stack, have: Have) -> Result<Moved, NoMemory>
-    ensures { IfOk result (λ r. Moves (m.move_question (m.close_at 1 frames.old (m.flushed have nodes.old) have.tight have.target)) (kept_whole (tape nodes.old frames.old (n.Have have))) frames.new nodes.new r) }
+    ensures { IfOk result (λ r. Moves (m.move_question (m.close_at 1 frames.old (m.flushed have nodes.old)
+        have.tight have.target)) (kept_whole (tape nodes.old frames.old (n.Have have))) frames.new nodes.new r) }
 {
     let (tight, target) = close_behind(nodes, frames, have, 1)?;
     match frames.pop() {
@@ -124,7 +131,9 @@ fn begin_update(
     tight: u8,
     target: bool,
 ) -> Result<Moved, NoMemory>
-    ensures { IfOk result (λ r. Moves (if target && m.admits frames.old 0 then Some (tape (node.Target true assignment place ∷ nodes.old) (f.Assign ∷ frames.old) n.Need) else None) (closed_whole (m.close_at 0 frames.old nodes.old tight target)) frames.new nodes.new r) }
+    ensures { IfOk result (λ r. Moves (if target && m.admits frames.old 0 then Some
+        (tape (node.Target true assignment place ∷ nodes.old) (f.Assign ∷ frames.old) n.Need) else None)
+        (closed_whole (m.close_at 0 frames.old nodes.old tight target)) frames.new nodes.new r) }
 {
     if target && frames.admits(0) {
         nodes.push(Node::Target(true, assignment, place))?;
@@ -143,7 +152,8 @@ fn update(
     assignment: Assignment,
     place: Place,
 ) -> Result<Moved, NoMemory>
-    ensures { IfOk result (λ r. Moves (m.move_update assignment place frames.old (m.flushed have nodes.old) have.target) (kept_whole (tape nodes.old frames.old (n.Have have))) frames.new nodes.new r) }
+    ensures { IfOk result (λ r. Moves (m.move_update assignment place frames.old (m.flushed have nodes.old) have.target)
+        (kept_whole (tape nodes.old frames.old (n.Have have))) frames.new nodes.new r) }
 {
     flush(nodes, &have)?;
     match frames.pop() {
@@ -169,7 +179,9 @@ fn bump(
     postfix: Postfix,
     place: Place,
 ) -> Result<Moved, NoMemory>
-    ensures { IfOk result (λ r. Moves (if have.target && m.admits frames.now 14 then Some (tape (node.Postfix postfix place ∷ m.flushed have nodes.old) frames.now (n.Have m.of_bumped)) else None) (kept_whole (tape nodes.old frames.now (n.Have have))) frames.now nodes.new r) }
+    ensures { IfOk result (λ r. Moves (if have.target && m.admits frames.now 14 then Some
+        (tape (node.Postfix postfix place ∷ m.flushed have nodes.old) frames.now (n.Have m.of_bumped)) else None)
+        (kept_whole (tape nodes.old frames.now (n.Have have))) frames.now nodes.new r) }
 {
     flush(nodes, &have)?;
     if have.target && frames.admits(14) {
@@ -182,7 +194,8 @@ fn bump(
 
 /// `.` before the name of a member (ECMA-262, 13.3 Left-Hand-Side Expressions).
 fn dot(nodes: &mut Nodes, frames: &Stack, have: Have) -> Result<Moved, NoMemory>
-    ensures { IfOk result (λ r. Moves (if have.primary then Some (tape nodes.old frames.now (n.Dotted have)) else None) (kept_whole (tape nodes.old frames.now (n.Have have))) frames.now nodes.new r) }
+    ensures { IfOk result (λ r. Moves (if have.primary then Some (tape nodes.old frames.now (n.Dotted have)) else None)
+        (kept_whole (tape nodes.old frames.now (n.Have have))) frames.now nodes.new r) }
 {
     if have.primary {
         Ok(Moved::To(Now::Dotted(have)))
@@ -193,7 +206,9 @@ fn dot(nodes: &mut Nodes, frames: &Stack, have: Have) -> Result<Moved, NoMemory>
 
 /// `(` of a call.
 fn call(nodes: &mut Nodes, frames: &mut Stack, have: Have, place: Place) -> Result<Moved, NoMemory>
-    ensures { IfOk result (λ r. Moves (if have.primary then Some (tape (node.Mark ∷ nodes.old) (f.Args place (m.is_reach_binding have.reach) ∷ frames.old) n.Need) else None) (kept_whole (tape nodes.old frames.old (n.Have have))) frames.new nodes.new r) }
+    ensures { IfOk result (λ r. Moves (if have.primary then Some
+        (tape (node.Mark ∷ nodes.old) (f.Args place (m.is_reach_binding have.reach) ∷ frames.old) n.Need) else None)
+        (kept_whole (tape nodes.old frames.old (n.Have have))) frames.new nodes.new r) }
 {
     if have.primary {
         nodes.push(Node::Mark)?;
@@ -206,7 +221,8 @@ fn call(nodes: &mut Nodes, frames: &mut Stack, have: Have, place: Place) -> Resu
 
 /// `[` of a step to an element.
 fn index(nodes: &mut Nodes, frames: &mut Stack, have: Have, place: Place) -> Result<Moved, NoMemory>
-    ensures { IfOk result (λ r. Moves (if have.primary then Some (tape nodes.old (f.Element place ∷ frames.old) n.Need) else None) (kept_whole (tape nodes.old frames.old (n.Have have))) frames.new nodes.new r) }
+    ensures { IfOk result (λ r. Moves (if have.primary then Some (tape nodes.old (f.Element place ∷ frames.old) n.Need)
+        else None) (kept_whole (tape nodes.old frames.old (n.Have have))) frames.new nodes.new r) }
 {
     if have.primary {
         frames.push(Frame::Element(place))?;
@@ -225,7 +241,8 @@ fn by_role(
     role: Role,
     alloc: Global,
 ) -> Result<Moved, NoMemory>
-    ensures { IfOk result (λ r. Moves (m.move_role have frames.old nodes.old token.now (that_role role)) (kept_whole (tape nodes.old frames.old (n.Have have))) frames.new nodes.new r) }
+    ensures { IfOk result (λ r. Moves (m.move_role have frames.old nodes.old token.now (that_role role))
+        (kept_whole (tape nodes.old frames.old (n.Have have))) frames.new nodes.new r) }
 {
     let place = token.place;
     match role {
@@ -255,7 +272,8 @@ pub fn have(
     token: &Token,
     alloc: Global,
 ) -> Result<Moved, NoMemory>
-    ensures { IfOk result (λ r. Moves (m.move_have have frames.old nodes.old token.now) (kept_whole (tape nodes.old frames.old (n.Have have))) frames.new nodes.new r) }
+    ensures { IfOk result (λ r. Moves (m.move_have have frames.old nodes.old token.now)
+        (kept_whole (tape nodes.old frames.old (n.Have have))) frames.new nodes.new r) }
 {
     if ends_line(last_of(have.callable), token) {
         end(nodes, frames, have, token, alloc)
@@ -272,7 +290,8 @@ pub fn dotted(
     token: &Token,
     alloc: Global,
 ) -> Result<Moved, NoMemory>
-    ensures { IfOk result (λ r. Moves (m.move_dotted have frames.now nodes.old token.now.place token.now.what) (kept_whole (tape nodes.old frames.now (n.Dotted have))) frames.now nodes.new r) }
+    ensures { IfOk result (λ r. Moves (m.move_dotted have frames.now nodes.old token.now.place token.now.what)
+        (kept_whole (tape nodes.old frames.now (n.Dotted have))) frames.now nodes.new r) }
 {
     match &token.what {
         TokenKind::Name(name) => {

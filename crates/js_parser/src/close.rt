@@ -50,7 +50,8 @@ pub fn close(
     mut tight: u8,
     mut target: bool,
 ) -> Result<(u8, bool), NoMemory>
-    ensures { IfOk result (λ r. close_at level frames.old nodes.old tight target ≡ closed nodes.new frames.new r.0 r.1) }
+    ensures { IfOk result
+        (λ r. close_at level frames.old nodes.old tight target ≡ closed nodes.new frames.new r.0 r.1) }
 {
     while let Some(frame) = frames.pop() {
         match close_one(nodes, frame, level, tight, target)? {

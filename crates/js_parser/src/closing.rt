@@ -34,8 +34,10 @@ pub fn close_behind(
     have: Have,
     level: u8,
 ) -> Result<(u8, bool), NoMemory>
-    ensures closes { IfOk result (λ r. m.close_at level frames.old (m.flushed have nodes.old) have.tight have.target ≡ m.closed nodes.new frames.new r.0 r.1) }
-    ensures stays { IfOk result (λ r. kept_whole (tape nodes.old frames.old (n.Have have)) ≡ closed_whole (m.close_at 0 frames.new nodes.new r.0 r.1)) }
+    ensures closes { IfOk result (λ r. m.close_at level frames.old (m.flushed have nodes.old) have.tight have.target ≡
+        m.closed nodes.new frames.new r.0 r.1) }
+    ensures stays { IfOk result (λ r. kept_whole (tape nodes.old frames.old (n.Have have)) ≡
+        closed_whole (m.close_at 0 frames.new nodes.new r.0 r.1)) }
 {
     flush(nodes, &have)?;
     close(nodes, frames, level, have.tight, have.target)
@@ -43,7 +45,8 @@ pub fn close_behind(
 
 /// `:` of a choice.
 pub fn colon(nodes: &mut Nodes, frames: &mut Stack, have: Have) -> Result<Moved, NoMemory>
-    ensures { IfOk result (λ r. Moves (m.move_colon (m.close_at 0 frames.old (m.flushed have nodes.old) have.tight have.target)) (kept_whole (tape nodes.old frames.old (n.Have have))) frames.new nodes.new r) }
+    ensures { IfOk result (λ r. Moves (m.move_colon (m.close_at 0 frames.old (m.flushed have nodes.old)
+        have.tight have.target)) (kept_whole (tape nodes.old frames.old (n.Have have))) frames.new nodes.new r) }
 {
     let (tight, target) = close_behind(nodes, frames, have, 0)?;
     match frames.pop() {
@@ -62,7 +65,8 @@ pub fn colon(nodes: &mut Nodes, frames: &mut Stack, have: Have) -> Result<Moved,
 
 /// `)` of brackets, of a call, or of the condition or the header of a statement.
 pub fn paren(nodes: &mut Nodes, frames: &mut Stack, have: Have) -> Result<Moved, NoMemory>
-    ensures { IfOk result (λ r. Moves (m.move_paren (m.close_at 0 frames.old (m.flushed have nodes.old) have.tight have.target)) (kept_whole (tape nodes.old frames.old (n.Have have))) frames.new nodes.new r) }
+    ensures { IfOk result (λ r. Moves (m.move_paren (m.close_at 0 frames.old (m.flushed have nodes.old)
+        have.tight have.target)) (kept_whole (tape nodes.old frames.old (n.Have have))) frames.new nodes.new r) }
 {
     let (tight, target) = close_behind(nodes, frames, have, 0)?;
     match frames.pop() {
@@ -97,7 +101,8 @@ pub fn paren(nodes: &mut Nodes, frames: &mut Stack, have: Have) -> Result<Moved,
 
 /// `]` of a list or of a step to an element.
 pub fn bracket(nodes: &mut Nodes, frames: &mut Stack, have: Have) -> Result<Moved, NoMemory>
-    ensures { IfOk result (λ r. Moves (m.move_bracket (m.close_at 0 frames.old (m.flushed have nodes.old) have.tight have.target)) (kept_whole (tape nodes.old frames.old (n.Have have))) frames.new nodes.new r) }
+    ensures { IfOk result (λ r. Moves (m.move_bracket (m.close_at 0 frames.old (m.flushed have nodes.old)
+        have.tight have.target)) (kept_whole (tape nodes.old frames.old (n.Have have))) frames.new nodes.new r) }
 {
     let (tight, target) = close_behind(nodes, frames, have, 0)?;
     match frames.pop() {
@@ -119,7 +124,8 @@ pub fn bracket(nodes: &mut Nodes, frames: &mut Stack, have: Have) -> Result<Move
 
 /// `,` between arguments, elements, fields or declared names.
 pub fn comma(nodes: &mut Nodes, frames: &mut Stack, have: Have) -> Result<Moved, NoMemory>
-    ensures { IfOk result (λ r. Moves (m.move_comma (m.close_at 0 frames.old (m.flushed have nodes.old) have.tight have.target)) (kept_whole (tape nodes.old frames.old (n.Have have))) frames.new nodes.new r) }
+    ensures { IfOk result (λ r. Moves (m.move_comma (m.close_at 0 frames.old (m.flushed have nodes.old)
+        have.tight have.target)) (kept_whole (tape nodes.old frames.old (n.Have have))) frames.new nodes.new r) }
 {
     let (tight, target) = close_behind(nodes, frames, have, 0)?;
     match frames.pop() {
@@ -145,7 +151,8 @@ pub fn comma(nodes: &mut Nodes, frames: &mut Stack, have: Have) -> Result<Moved,
 
 /// `;` of a statement or of the header of a `for`.
 pub fn semicolon(nodes: &mut Nodes, frames: &mut Stack, have: Have) -> Result<Moved, NoMemory>
-    ensures { IfOk result (λ r. Moves (m.move_semi (m.close_at 0 frames.old (m.flushed have nodes.old) have.tight have.target)) (kept_whole (tape nodes.old frames.old (n.Have have))) frames.new nodes.new r) }
+    ensures { IfOk result (λ r. Moves (m.move_semi (m.close_at 0 frames.old (m.flushed have nodes.old)
+        have.tight have.target)) (kept_whole (tape nodes.old frames.old (n.Have have))) frames.new nodes.new r) }
 {
     let (tight, target) = close_behind(nodes, frames, have, 0)?;
     match frames.pop() {

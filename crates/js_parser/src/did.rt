@@ -43,7 +43,8 @@ pub fn over(nodes: &mut Nodes, frames: &mut Stack) -> Result<(), NoMemory>
 
 /// An `else`, which stands behind the innermost `if` that has none.
 fn else_behind(nodes: &mut Nodes, frames: &mut Stack) -> Result<Moved, NoMemory>
-    ensures { IfOk result (λ r. Moves (move_else frames.old nodes.old) (over_whole (is_over frames.old nodes.old)) frames.new nodes.new r) }
+    ensures { IfOk result (λ r.
+        Moves (move_else frames.old nodes.old) (over_whole (is_over frames.old nodes.old)) frames.new nodes.new r) }
 {
     while let Some(frame) = frames.pop() {
         if let Frame::When(place) = frame {
@@ -67,7 +68,8 @@ fn placed(
     kind: &TokenKind,
     alloc: Global,
 ) -> Result<Moved, NoMemory>
-    ensures { IfOk result (λ r. Moves (move_placed (over_at nodes.old frames.old) place kind.now) (over_whole (over_at nodes.old frames.old)) frames.new nodes.new r) }
+    ensures { IfOk result (λ r. Moves (move_placed (over_at nodes.old frames.old) place kind.now)
+        (over_whole (over_at nodes.old frames.old)) frames.new nodes.new r) }
 {
     let Some(frame) = frames.pop() else {
         return Ok(Moved::Stuck(Rest::Ended));
@@ -91,7 +93,8 @@ pub fn did(
     token: &Token,
     alloc: Global,
 ) -> Result<Moved, NoMemory>
-    ensures { IfOk result (λ r. Moves (move_did frames.old nodes.old token.now) (over_whole (is_over frames.old nodes.old)) frames.new nodes.new r) }
+    ensures { IfOk result (λ r. Moves
+        (move_did frames.old nodes.old token.now) (over_whole (is_over frames.old nodes.old)) frames.new nodes.new r) }
 {
     if token.what.is_word(Word::Else) {
         else_behind(nodes, frames)

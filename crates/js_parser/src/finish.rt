@@ -42,7 +42,8 @@ fn begun(nodes: &mut Nodes, frames: &mut Stack) -> Result<bool, NoMemory>
 
 /// Behind an expression that nothing more can be closed of: whether it ends what was to be read.
 fn closing(nodes: &mut Nodes, frames: &mut Stack, tight: u8, target: bool) -> Result<bool, NoMemory>
-    ensures { IfOk result (λ r. closed_whole (closed nodes.old frames.old tight target) ≡ (if r then Some nodes.new else None)) }
+    ensures { IfOk result
+        (λ r. closed_whole (closed nodes.old frames.old tight target) ≡ (if r then Some nodes.new else None)) }
 {
     match frames.pop() {
         Some(Frame::Alone) => return Ok(true),

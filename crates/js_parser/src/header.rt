@@ -24,7 +24,8 @@ fn value(
     kind: &TokenKind,
     alloc: Global,
 ) -> Result<Moved, NoMemory>
-    ensures { IfOk result (λ r. Moves (move_need (frame ∷ frames.old) nodes.old place kind.now) None frames.new nodes.new r) }
+    ensures { IfOk result
+        (λ r. Moves (move_need (frame ∷ frames.old) nodes.old place kind.now) None frames.new nodes.new r) }
 {
     frames.push(frame)?;
     let now = need(nodes, frames, place, kind, alloc)?;
@@ -43,7 +44,8 @@ fn first_word(
     word: Word,
     alloc: Global,
 ) -> Result<Moved, NoMemory>
-    ensures { IfOk result (λ r. Moves (move_first at frames.old nodes.old place (k.Word word)) None frames.new nodes.new r) }
+    ensures { IfOk result
+        (λ r. Moves (move_first at frames.old nodes.old place (k.Word word)) None frames.new nodes.new r) }
 {
     let what = match word {
         Word::Var => Declaration::Var,

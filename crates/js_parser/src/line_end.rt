@@ -24,7 +24,8 @@ fn end_closed(
     target: bool,
     alloc: Global,
 ) -> Result<Moved, NoMemory>
-    ensures { IfOk result (λ r. Moves (m.move_end (m.closed nodes.old frames.old tight target) token.now) (closed_whole (m.close_at 0 frames.old nodes.old tight target)) frames.new nodes.new r) }
+    ensures { IfOk result (λ r. Moves (m.move_end (m.closed nodes.old frames.old tight target) token.now)
+        (closed_whole (m.close_at 0 frames.old nodes.old tight target)) frames.new nodes.new r) }
 {
     match frames.pop() {
         Some(Frame::Expression) => nodes.push(Node::Expression(Close::Auto))?,
@@ -49,7 +50,9 @@ pub fn end(
     token: &Token,
     alloc: Global,
 ) -> Result<Moved, NoMemory>
-    ensures { IfOk result (λ r. Moves (m.move_end (m.close_at 0 frames.old (m.flushed have nodes.old) have.tight have.target) token.now) (kept_whole (tape nodes.old frames.old (n.Have have))) frames.new nodes.new r) }
+    ensures { IfOk result
+        (λ r. Moves (m.move_end (m.close_at 0 frames.old (m.flushed have nodes.old) have.tight have.target) token.now)
+        (kept_whole (tape nodes.old frames.old (n.Have have))) frames.new nodes.new r) }
 {
     let (tight, target) = close_behind(nodes, frames, have, 0)?;
     end_closed(nodes, frames, token, tight, target, alloc)
@@ -63,7 +66,9 @@ pub fn brace(
     token: &Token,
     alloc: Global,
 ) -> Result<Moved, NoMemory>
-    ensures { IfOk result (λ r. Moves (m.move_brace (m.close_at 0 frames.old (m.flushed have nodes.old) have.tight have.target) token.now) (kept_whole (tape nodes.old frames.old (n.Have have))) frames.new nodes.new r) }
+    ensures { IfOk result
+        (λ r. Moves (m.move_brace (m.close_at 0 frames.old (m.flushed have nodes.old) have.tight have.target) token.now)
+        (kept_whole (tape nodes.old frames.old (n.Have have))) frames.new nodes.new r) }
 {
     let (tight, target) = close_behind(nodes, frames, have, 0)?;
     match frames.pop() {

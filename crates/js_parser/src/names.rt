@@ -70,7 +70,9 @@ pub fn give(
     token: &Token,
     alloc: Global,
 ) -> Result<Moved, NoMemory>
-    ensures { IfOk result (λ r. Moves (move_alone (node.Give at end.Auto) (node.Give at end.Semi) frames.old nodes.old token.now (move_need (f.Give at ∷ frames.old) nodes.old token.now.place token.now.what)) (over_whole (is_over frames.old (node.Give at end.Auto ∷ nodes.old))) frames.new nodes.new r) }
+    ensures { IfOk result (λ r. Moves (move_alone (node.Give at end.Auto) (node.Give at end.Semi)
+        frames.old nodes.old token.now (move_need (f.Give at ∷ frames.old) nodes.old token.now.place token.now.what))
+        (over_whole (is_over frames.old (node.Give at end.Auto ∷ nodes.old))) frames.new nodes.new r) }
 {
     if ends_alone(token) {
         nodes.push(Node::Give(at, Close::Auto))?;
@@ -101,7 +103,8 @@ pub fn jump(
     token: &Token,
     alloc: Global,
 ) -> Result<Moved, NoMemory>
-    ensures { IfOk result (λ r. Moves (move_alone by_end by_semi frames.old nodes.old token.now None) (over_whole (is_over frames.old (by_end ∷ nodes.old))) frames.new nodes.new r) }
+    ensures { IfOk result (λ r. Moves (move_alone by_end by_semi frames.old nodes.old token.now None)
+        (over_whole (is_over frames.old (by_end ∷ nodes.old))) frames.new nodes.new r) }
 {
     if !ends_alone(token) && is_semi(&token.what) {
         nodes.push(by_semi)?;
@@ -174,7 +177,8 @@ fn named_end(
     token: &Token,
     alloc: Global,
 ) -> Result<Moved, NoMemory>
-    ensures { IfOk result (λ r. Moves (move_named_end stands at what frames.old nodes.old token.now) (kept_whole (tape nodes.old frames.old (n.Named stands at what))) frames.new nodes.new r) }
+    ensures { IfOk result (λ r. Moves (move_named_end stands at what frames.old nodes.old token.now)
+        (kept_whole (tape nodes.old frames.old (n.Named stands at what))) frames.new nodes.new r) }
 {
     match stands {
         Stands::Body => {
@@ -199,7 +203,9 @@ pub fn named(
     token: &Token,
     alloc: Global,
 ) -> Result<Moved, NoMemory>
-    ensures { IfOk result (λ r. Moves (move_named stands at what frames.old nodes.old token.now (m.role_of token.now.what)) (kept_whole (tape nodes.old frames.old (n.Named stands at what))) frames.new nodes.new r) }
+    ensures { IfOk result
+        (λ r. Moves (move_named stands at what frames.old nodes.old token.now (m.role_of token.now.what))
+        (kept_whole (tape nodes.old frames.old (n.Named stands at what))) frames.new nodes.new r) }
 {
     let role = role_of(&token.what);
     match role {

@@ -29,7 +29,8 @@ enum Reading {
 
 /// Opens what is to be read.
 fn start(reading: Reading, nodes: &mut Nodes, frames: &mut Stack) -> Result<Now, NoMemory>
-    ensures { IfOk result (λ now. nodes.old ≡ [] → frames.old ≡ [] → tape nodes.new frames.new now ≡ kept_start (entry_of reading)) }
+    ensures { IfOk result
+        (λ now. nodes.old ≡ [] → frames.old ≡ [] → tape nodes.new frames.new now ≡ kept_start (entry_of reading)) }
 {
     match reading {
         Reading::Expression => {
@@ -54,7 +55,8 @@ fn front(
     reading: Reading,
     tokens: &[Token],
 ) -> Result<(Nodes, bool, usize), NoMemory>
-    ensures { IfOk result (λ r. (kept_go tokens.now (kept_start (entry_of reading)) ≡ record { tree = if r.1 then Some r.0 else None; rest = drop r.2 tokens.now }) × (r.2 ≤ length tokens.now)) }
+    ensures { IfOk result (λ r. (kept_go tokens.now (kept_start (entry_of reading)) ≡
+        record { tree = if r.1 then Some r.0 else None; rest = drop r.2 tokens.now }) × (r.2 ≤ length tokens.now)) }
 {
     let mut nodes = Nodes::new(alloc);
     let mut frames = Stack::new(alloc);
@@ -95,7 +97,8 @@ fn parse(
     tokens: &[Token],
     from: usize,
 ) -> Result<(Tree, usize), ParseFault>
-    ensures answer { AreWhole tokens.now → from < length tokens.now → FrontAnswer Lists (entry_of reading) tokens.now from result }
+    ensures answer { AreWhole tokens.now →
+        from < length tokens.now → FrontAnswer Lists (entry_of reading) tokens.now from result }
     ensures outside { length tokens.now ≤ from → result ≡ Err (fault.Syntax first_place) }
 {
     if from >= tokens.len() {
@@ -123,7 +126,8 @@ fn parse(
 /// Nothing recurses. Where `from` stands behind the last token, the answer is `Syntax` at 1:1; where the last token isn't
 /// the end of the file, nothing else is said of it.
 pub fn parse_expr(alloc: Global, tokens: &[Token], from: usize) -> Result<(Tree, usize), ParseFault>
-    ensures answer { AreWhole tokens.now → from < length tokens.now → FrontAnswer Lists an_expression tokens.now from result }
+    ensures answer { AreWhole tokens.now →
+        from < length tokens.now → FrontAnswer Lists an_expression tokens.now from result }
     ensures outside { length tokens.now ≤ from → result ≡ Err (fault.Syntax first_place) }
 {
     parse(alloc, Reading::Expression, tokens, from)
@@ -135,7 +139,8 @@ pub fn parse_statement(
     tokens: &[Token],
     from: usize,
 ) -> Result<(Tree, usize), ParseFault>
-    ensures answer { AreWhole tokens.now → from < length tokens.now → FrontAnswer Lists a_statement tokens.now from result }
+    ensures answer { AreWhole tokens.now →
+        from < length tokens.now → FrontAnswer Lists a_statement tokens.now from result }
     ensures outside { length tokens.now ≤ from → result ≡ Err (fault.Syntax first_place) }
 {
     parse(alloc, Reading::Statement, tokens, from)

@@ -19,7 +19,9 @@ pub fn read(
     tokens: &[Token],
     alloc: Global,
 ) -> Result<(bool, usize), NoMemory>
-    ensures { IfOk result (λ r. (kept_go tokens.now (tape nodes.old frames.old start) ≡ record { tree = if r.0 then Some nodes.new else None; rest = drop r.1 tokens.now }) × (r.1 ≤ length tokens.now)) }
+    ensures { IfOk result (λ r. (kept_go tokens.now (tape nodes.old frames.old start) ≡
+        record { tree = if r.0 then Some nodes.new else None; rest = drop r.1 tokens.now }) ×
+        (r.1 ≤ length tokens.now)) }
 {
     let mut now = start;
     let mut count = 0;

@@ -38,7 +38,8 @@ pub fn step(
     token: &Token,
     alloc: Global,
 ) -> Result<Moved, NoMemory>
-    ensures { IfOk result (λ r. Moves (move (tape nodes.old frames.old now) token.now) (kept_whole (tape nodes.old frames.old now)) frames.new nodes.new r) }
+    ensures { IfOk result (λ r. Moves (move (tape nodes.old frames.old now) token.now)
+        (kept_whole (tape nodes.old frames.old now)) frames.new nodes.new r) }
 {
     let place = token.place;
     let kind = &token.what;

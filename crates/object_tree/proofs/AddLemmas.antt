@@ -39,7 +39,7 @@ pub below : (m n : ℕ) (xs : List Object) (p : Option ObjNo) → MayOwn xs p �
 below m n xs None may all h = tt
 below m n xs (Some p) may all h = let low = found_up_to m xs p may.0 all in omega arith
 
-index_left : (xs ys : List ℕ) (i : ℕ) → i < length xs → slice_index (xs ++ ys) i ≡ slice_index xs i
+pub index_left : (xs ys : List ℕ) (i : ℕ) → i < length xs → slice_index (xs ++ ys) i ≡ slice_index xs i
 index_left [] ys i h = absurd (omega arith)
 index_left (x ∷ xs) ys zero h = refl
 index_left (x ∷ xs) ys (suc i) h = index_left xs ys i (omega arith)
@@ -48,7 +48,7 @@ index_end : (xs : List ℕ) (y : ℕ) → slice_index (xs ++ y ∷ []) (length x
 index_end [] y = refl
 index_end (x ∷ xs) y = index_end xs y
 
-get_push : (xs : List Object) (x y : Object) (i : ℕ) → slice_get (xs ++ x ∷ []) i ≡ Some y → (slice_get xs i ≡ Some y) ⊎ ((i ≡ length xs) × (y ≡ x))
+pub get_push : (xs : List Object) (x y : Object) (i : ℕ) → slice_get (xs ++ x ∷ []) i ≡ Some y → (slice_get xs i ≡ Some y) ⊎ ((i ≡ length xs) × (y ≡ x))
 get_push [] x y zero e = inr (refl, let same : y ≡ x = cc in same)
 get_push [] x y (suc i) e = let no : None ≡ Some y = e in cc
 get_push (z ∷ zs) x y zero e = inl e

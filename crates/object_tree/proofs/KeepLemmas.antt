@@ -83,7 +83,7 @@ index_set_other (x ∷ xs) zero j v h = absurd (omega arith)
 index_set_other (x ∷ xs) (suc i) zero v h = refl
 index_set_other (x ∷ xs) (suc i) (suc j) v h = index_set_other xs i j v (omega arith)
 
-above : (n : ℕ) (xs : List Object) (j i : ℕ) (x y : Object) → IsOrdered n xs → j < i → slice_get xs j ≡ Some x → slice_get xs i ≡ Some y → (n < x.number.0) × (x.number.0 < y.number.0)
+pub above : (n : ℕ) (xs : List Object) (j i : ℕ) (x y : Object) → IsOrdered n xs → j < i → slice_get xs j ≡ Some x → slice_get xs i ≡ Some y → (n < x.number.0) × (x.number.0 < y.number.0)
 above n [] j i x y ordered h e f = let no : None ≡ Some x = e in cc
 above n (z ∷ zs) j zero x y ordered h e f = absurd (omega arith)
 above n (z ∷ zs) zero (suc i) x y ordered h e f =

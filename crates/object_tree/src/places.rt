@@ -8,7 +8,7 @@ use qml_base::ObjNo;
 use tree_model::Object;
 
 /// Where the object of the number stands, if it is live.
-fn place(places: &[u32], o: ObjNo) -> usize
+pub fn place(places: &[u32], o: ObjNo) -> usize
     ensures { result ≡ slice_index places.now (o.0 - 1) }
 {
     match places.get((o.0 as usize).saturating_sub(1)) {

@@ -6,8 +6,10 @@ ghost use Rattle.tree_model.specs.Settling.{stands};
 ghost use Rattle.object_tree.specs.Trees.{found, owner_of, is_there, objects_but, MayOwn, IsFull, Adds, IsAt};
 ghost use Rattle.tree_model.specs.Removing.{doomed_of, kept_of, AscendsFrom};
 
-use crate::marking::{condemn, drop_number, drop_object, keep, list_doomed, place_all};
+use crate::links::{Links, Tie};
 use crate::places::{condemned_in, find, stands_in};
+use crate::removing::{drop_number, drop_object, keep, place_all};
+use crate::spreading::condemn;
 use qml_base::{OBJECT_LIMIT, ObjNo};
 use std::alloc::{AllocError, AllocFailed, Global};
 use std::marker::Model;
@@ -52,11 +54,18 @@ pub struct Tree {
     places: Vec<u32>,
     /// The condemned objects, with room for all live ones.
     doomed: Vec<ObjNo>,
+    /// Which objects each owns.
+    owned: Links,
+    /// Which objects were made from each.
+    made: Links,
 }
 
 impl Model for Tree {
     ghost use Rattle.std.specs.Prelude.{◌≡◌, ◌≤◌, ◌<◌, ◌+◌, ◌^◌, length, vec_len, vec_capacity};
     ghost use Rattle.object_tree.specs.Trees.{Objects, IsAt, AllUpTo};
+    ghost use Rattle.object_tree.specs.Links.{IsTied};
+    ghost use Rattle.object_tree.specs.Spreading.{IsWhole};
+    ghost use Rattle.object_tree.specs.declared.links.Tie.TheVariants as by_tie;
     ghost use Rattle.tree_model.specs.Removing.{doomed_of};
     ghost use Rattle.tree_model.specs.Doomed.{IsOrdered};
 
@@ -64,7 +73,7 @@ impl Model for Tree {
 
     ghost view = { λ t. record { objects = t.objects.items; given = vec_len t.places } };
 
-    ghost invariant = { λ t. (t.doomed.items ≡ doomed_of t.objects.items) × (vec_len t.objects ≤ vec_capacity t.doomed) × IsAt t.places.items t.objects.items × IsOrdered 0 t.objects.items × AllUpTo (vec_len t.places) t.objects.items × (vec_len t.objects ≤ 100000) × (vec_len t.places < 2 ^ 32) };
+    ghost invariant = { λ t. (t.doomed.items ≡ doomed_of t.objects.items) × (vec_len t.objects ≤ vec_capacity t.doomed) × IsAt t.places.items t.objects.items × IsOrdered 0 t.objects.items × AllUpTo (vec_len t.places) t.objects.items × (vec_len t.objects ≤ 100000) × (vec_len t.places < 2 ^ 32) × IsTied by_tie.Owned t.objects.items t.owned.last.items t.owned.before.items × IsTied by_tie.Made t.objects.items t.made.last.items t.made.before.items × IsWhole t.objects.items };
 }
 
 impl Tree {
@@ -77,6 +86,8 @@ impl Tree {
             objects: Vec::new(alloc),
             places: Vec::new(alloc),
             doomed: Vec::new(alloc),
+            owned: Links::new(alloc),
+            made: Links::new(alloc),
         }
     }
 
@@ -163,6 +174,8 @@ impl Tree {
         let room = (self.objects.len() + 1).saturating_sub(self.doomed.len());
         self.doomed.reserve(room)?;
         self.objects.reserve(1)?;
+        self.owned.reserve()?;
+        self.made.reserve()?;
         self.places.push(live)?;
         let number = ObjNo(given + 1);
         let object = Object {
@@ -172,6 +185,9 @@ impl Tree {
             condemned: false,
         };
         self.objects.push(object)?;
+        let (places, objects) = (self.places.as_slice(), self.objects.as_slice());
+        self.owned.add(places, objects, Tie::Owned, live as usize);
+        self.made.add(places, objects, Tie::Made, live as usize);
         Ok(number)
     }
 
@@ -181,8 +197,14 @@ impl Tree {
         ensures least { (x : Object) → Stands x self.old.objects → ((is_marked self.new.objects x.number ≡ true) ↔ Doomed self.old.objects (Begins o) x) }
         ensures given { self.new.given ≡ self.old.given }
     {
-        condemn(self.places.as_slice(), self.objects.as_mut_slice(), o);
-        list_doomed(&mut self.doomed, self.objects.as_slice());
+        condemn(
+            self.places.as_slice(),
+            &self.owned,
+            &self.made,
+            self.objects.as_mut_slice(),
+            &mut self.doomed,
+            o,
+        );
     }
 
     /// Takes one condemned object away. Its number isn't given again.
@@ -194,6 +216,9 @@ impl Tree {
         drop_object(&mut self.objects, o);
         drop_number(&mut self.doomed, o);
         place_all(self.places.as_mut_slice(), self.objects.as_slice());
+        let (places, objects) = (self.places.as_slice(), self.objects.as_slice());
+        self.owned.relink(places, objects, Tie::Owned);
+        self.made.relink(places, objects, Tie::Made);
     }
 
     /// Takes all condemned objects away. Their numbers aren't given again.
@@ -205,5 +230,8 @@ impl Tree {
         self.objects.truncate(live);
         place_all(self.places.as_mut_slice(), self.objects.as_slice());
         self.doomed.clear();
+        let (places, objects) = (self.places.as_slice(), self.objects.as_slice());
+        self.owned.relink(places, objects, Tie::Owned);
+        self.made.relink(places, objects, Tie::Made);
     }
 }

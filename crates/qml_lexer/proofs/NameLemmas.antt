@@ -15,7 +15,7 @@ use Rattle.qml_lexer.specs.Characters.{is_part, run, behind}
 use Rattle.qml_text.specs.Utf.{encode_utf16_all}
 use Rattle.qml_syntax.specs.declared.token.TokenKind.TheVariants as kind
 use Rattle.qml_lexer.specs.Characters.{is_start}
-use Rattle.qml_lexer.specs.Spells.{is_identifier, a_name, a_word, Fits}
+use Rattle.qml_lexer.specs.Spells.{is_identifier, IsName, a_name, a_word, Fits}
 use Rattle.unicode_ident.proofs.IdentLemmas.{is_xid_start-ascii}
 use Rattle.unicode_ident.specs.Ident.{is_xid_start}
 use Rattle.qml_lexer.proofs.CharacterLemmas.{start_part}
@@ -56,7 +56,7 @@ lower_identifier (x ∷ xs) h l =
     let t = and_true (is_ascii_lowercase x) (list_all is_ascii_lowercase xs) h in
     and_both (is_start x) (list_all is_part xs) (lower_start x t.0) (lower_parts xs t.1)
 
-lower_encodes : (xs : List ℕ) → list_all is_ascii_lowercase xs ≡ true → encode_utf8_all xs ≡ xs
+pub lower_encodes : (xs : List ℕ) → list_all is_ascii_lowercase xs ≡ true → encode_utf8_all xs ≡ xs
 lower_encodes [] h = refl
 lower_encodes (x ∷ xs) h =
     let t = and_true (is_ascii_lowercase x) (list_all is_ascii_lowercase xs) h in
@@ -69,7 +69,7 @@ word_encodes w = lower_encodes (word_spelling w) (word_letters w)
 pub word_identifier : (w : Word) → is_identifier (word_spelling w) ≡ true
 word_identifier w = lower_identifier (word_spelling w) (word_letters w) (word_length w)
 
-same_bytes : (xs ys : List ℕ) → bytes_eq xs ys ≡ true → xs ≡ ys
+pub same_bytes : (xs ys : List ℕ) → bytes_eq xs ys ≡ true → xs ≡ ys
 same_bytes xs ys h = same_text xs ys (sym h)
 
 -- characters with the bytes of a word are the word
@@ -156,3 +156,17 @@ name_cut x xs rest what h e =
       cut = sym (run-behind is_part (x ∷ xs)) ∙ ap (λ z. run is_part (x ∷ xs) ++ z) parts.1;
       fits = subst P parts.0 (spells_it (run is_part (x ∷ xs)) rest (run_identifier x xs h));
     }
+
+-- ---- a text that is a name
+
+pub names_it : (bytes : List ℕ) → IsUtf8 bytes → is_identifier (chars bytes) ≡ true → word_among reserved_words bytes ≡ None → IsName (chars bytes)
+names_it bytes u h none = (h, free)
+  where
+    free : (k : Word) → chars bytes ≢ word_spelling k
+    free k s =
+        let some : word_among reserved_words (encode_utf8_all (chars bytes)) ≡ Some k = ap (λ z. word_among reserved_words (encode_utf8_all z)) s ∙ ap (word_among reserved_words) (word_encodes k) ∙ word_found k in
+        let same : word_among reserved_words (encode_utf8_all (chars bytes)) ≡ None = ap (word_among reserved_words) (encodes-chars bytes u) ∙ none in
+        cc
+
+pub names_nothing : (bytes : List ℕ) (k : Word) → IsUtf8 bytes → word_among reserved_words bytes ≡ Some k → IsName (chars bytes) → ⊥
+names_nothing bytes k u some n = n.1 k (among_is reserved_words (chars bytes) k (ap (word_among reserved_words) (encodes-chars bytes u) ∙ some))

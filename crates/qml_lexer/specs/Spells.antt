@@ -19,6 +19,10 @@ abbrev pub is_identifier : List ℕ → Bool
 is_identifier [] = false
 is_identifier (x ∷ xs) = is_start x && list_all is_part xs
 
+-- a name is an identifier and no reserved word
+abbrev pub IsName : List ℕ → Type 0
+IsName w = (is_identifier w ≡ true) × ((word : Word) → w ≢ word_spelling word)
+
 -- ---- numbers: digits in a radix, one or more, and what they are worth (ECMA-262, 12.9.3)
 
 abbrev pub are_digits : ℕ → List ℕ → Bool

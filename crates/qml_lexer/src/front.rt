@@ -22,7 +22,8 @@ use std::alloc::Global;
 
 /// What stands behind the end of a comment that was opened before the text.
 fn behind_comment(text: &str) -> Option<&str>
-    ensures { MatchOption result (s.behind_comment false (chars text.now) ≡ None) (λ r. s.behind_comment false (chars text.now) ≡ Some (chars r.now)) }
+    ensures { MatchOption result (s.behind_comment false (chars text.now) ≡ None)
+        (λ r. s.behind_comment false (chars text.now) ≡ Some (chars r.now)) }
 {
     let mut after_star = false;
     let mut rest = text;

@@ -21,8 +21,12 @@ mod numbers;
 mod tests;
 mod texts;
 
+pub use characters::{
+    Blanks, Class, begins_with, behind_run, is_blank, split_first_char, split_run,
+};
 pub use fault::{LexCause, LexFault};
 pub use laws::{
     longest_token_is_taken, none_reads_what_is_refused, one_list_reads, refused_in_one_way,
 };
 pub use lexer::lex;
+pub use names::is_name;

@@ -140,7 +140,8 @@ fn spelling(mark: Mark) -> &'static [char]
 
 /// What stands behind these characters at the front.
 fn behind_all<'a>(text: &'a str, characters: &[char]) -> Option<&'a str>
-    ensures { MatchOption result (s.behind_all (chars text.now) characters.now ≡ None) (λ r. s.behind_all (chars text.now) characters.now ≡ Some (chars r.now)) }
+    ensures { MatchOption result (s.behind_all (chars text.now) characters.now ≡ None)
+        (λ r. s.behind_all (chars text.now) characters.now ≡ Some (chars r.now)) }
 {
     let mut rest = text;
     for character in characters {

@@ -1,10 +1,14 @@
 //! Names and reserved words.
 
-ghost use Rattle.std.specs.Prelude.{◌≡◌, [], ◌∷◌, ◌++◌, OnOk, List, ℕ};
+ghost use Rattle.std.specs.Prelude.{◌≡◌, [], ◌∷◌, ◌++◌, OnOk, List, ℕ, true, false};
 ghost use Rattle.std.specs.Str.{chars};
 ghost use Rattle.qml_lexer.specs.Names as s;
 ghost use Rattle.qml_lexer.specs.Reading.{token_on};
+ghost use Rattle.qml_lexer.specs.Spells.{is_identifier, IsName};
+ghost use Rattle.qml_lexer.specs.Characters.{is_part};
+ghost use Rattle.std.specs.List.{list_all};
 
+use crate::characters::{Class, Parts, is_start, split_first_char};
 use crate::found::{Spot, put};
 use qml_syntax::{Token, TokenKind, Word};
 use qml_text::{NoMemory, Text};
@@ -71,7 +75,8 @@ fn word_among(words: &[Word], name: &str) -> Option<Word>
 /// The reserved words among which a name that begins with this byte has to be looked for.
 #[tactic(auto, using(crate::proofs::FirstLemmas::words_by_first))]
 fn words_from(first: u8) -> &'static [Word]
-    ensures { (bytes : List ℕ) → s.word_among result.now (first ∷ bytes) ≡ s.word_among s.reserved_words (first ∷ bytes) }
+    ensures { (bytes : List ℕ) →
+        s.word_among result.now (first ∷ bytes) ≡ s.word_among s.reserved_words (first ∷ bytes) }
 {
     match first {
         b'b' => &[Word::Break],
@@ -121,5 +126,44 @@ pub fn put_name(
             let name = Text::from_str(alloc, spelt)?;
             put(found, spot, TokenKind::Name(name))
         }
+    }
+}
+
+/// Whether each character of the text may go on in a name.
+fn are_parts(text: &str) -> bool
+    ensures { result ≡ list_all is_part (chars text.now) }
+{
+    let mut rest = text;
+    while let Some((first, behind)) = split_first_char(rest) {
+        if !Parts.has(first) {
+            return false;
+        }
+        rest = behind;
+    }
+    true
+}
+
+/// Whether the text is an identifier, as a reserved word is too.
+fn is_identifier(text: &str) -> bool
+    ensures { result ≡ is_identifier (chars text.now) }
+{
+    match split_first_char(text) {
+        Some((first, behind)) => is_start(first) && are_parts(behind),
+        None => false,
+    }
+}
+
+/// Whether the text is a name: an identifier, and no reserved word (ECMA-262, 12.7 Names and Keywords).
+#[tactic(auto, using(crate::proofs::NameLemmas::names_it, crate::proofs::NameLemmas::names_nothing))]
+pub fn is_name(text: &str) -> bool
+    ensures yes { result ≡ true → IsName (chars text.now) }
+    ensures no { result ≡ false → IsName (chars text.now) → ⊥ }
+{
+    if !is_identifier(text) {
+        return false;
+    }
+    match word_of(text) {
+        Some(_) => false,
+        None => true,
     }
 }

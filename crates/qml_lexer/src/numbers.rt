@@ -85,7 +85,8 @@ fn whole(text: &str, radix: u32) -> Result<(TokenKind, &str), LexCause>
 
 /// What stands behind `0x` or `0X`.
 fn behind_hexadecimal_mark(text: &str) -> Option<&str>
-    ensures { MatchOption result (s.behind_hexadecimal_mark (chars text.now) ≡ None) (λ r. s.behind_hexadecimal_mark (chars text.now) ≡ Some (chars r.now)) }
+    ensures { MatchOption result (s.behind_hexadecimal_mark (chars text.now) ≡ None)
+        (λ r. s.behind_hexadecimal_mark (chars text.now) ≡ Some (chars r.now)) }
 {
     let (zero, behind) = split_first_char(text)?;
     let (x, digits) = split_first_char(behind)?;
@@ -98,7 +99,8 @@ fn behind_hexadecimal_mark(text: &str) -> Option<&str>
 
 /// What stands behind a dot, where a digit follows it.
 fn behind_dot(text: &str) -> Option<&str>
-    ensures { MatchOption result (s.behind_dot (chars text.now) ≡ None) (λ r. s.behind_dot (chars text.now) ≡ Some (chars r.now)) }
+    ensures { MatchOption result
+        (s.behind_dot (chars text.now) ≡ None) (λ r. s.behind_dot (chars text.now) ≡ Some (chars r.now)) }
 {
     let (dot, behind) = split_first_char(text)?;
     if dot == '.' && begins_digit(behind, 10) {

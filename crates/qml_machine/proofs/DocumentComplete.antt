@@ -195,7 +195,7 @@ member_begins (m_given one ds is colon v) = one_begins one refl
 member_begins (m_group one ds is left ms right) = one_begins one refl
 member_begins (m_child o) = object_begins o
 
-members_begin : {ms : Members} {a b rest : List Token} → ReadsMembers ms a b → Sees (k.Mark m.RightBrace) b rest → Begins a
+pub members_begin : {ms : Members} {a b rest : List Token} → ReadsMembers ms a b → Sees (k.Mark m.RightBrace) b rest → Begins a
 members_begin ms_none (seen {t = t} {rest = rest} q) = (t, rest, refl, ap begins q)
 members_begin (ms_more x s more) close = member_begins x
 
@@ -203,7 +203,7 @@ or_begins : (a b : Bool) → b ≡ true → (a || b) ≡ true
 or_begins true b h = refl
 or_begins false b h = h
 
-behind : {s : Bool} {a b : List Token} → ReadsSemi s a b → Begins b → Behind a
+pub behind : {s : Bool} {a b : List Token} → ReadsSemi s a b → Begins b → Behind a
 behind no_semi (t, more, q, h) = (t, more, q, or_begins (is_semi t.what) (begins t.what) h)
 behind (a_semi (seen {t = t} {rest = rest} q)) h = (t, rest, refl, ap (λ x. is_semi x || begins x) q)
 
@@ -217,10 +217,10 @@ semi_run {a = a} no_semi (t, more, q, h) i x =
     ap (λ z. run z (done i x)) q ∙ one ∙ sym (ap (λ z. run z (members (grown i x false))) q)
 semi_run (a_semi (seen {t = t} {rest = rest} q)) h i x = then_run (done i x) t rest (members (grown i x true)) (ap (on_done i x t.place) q)
 
-behind_else : (x : TokenKind) → (is_semi x || begins x) ≡ true → x ≡ k.Word w.Else → ⊥
+pub behind_else : (x : TokenKind) → (is_semi x || begins x) ≡ true → x ≡ k.Word w.Else → ⊥
 behind_else x h q = let f : (is_semi (k.Word w.Else) || begins (k.Word w.Else)) ≡ true = sym (ap (λ z. is_semi z || begins z) q) ∙ h in cc
 
-behind_brace : (x : TokenKind) → (is_semi x || begins x) ≡ true → is_left_brace x ≡ false
+pub behind_brace : (x : TokenKind) → (is_semi x || begins x) ≡ true → is_left_brace x ≡ false
 behind_brace (k.Mark m.LeftBrace) h = cc
 behind_brace _ h = refl
 

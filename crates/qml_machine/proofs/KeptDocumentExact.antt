@@ -10,14 +10,8 @@ use Rattle.qml_machine.specs.DocumentTape.{imports_row, functions_row, Kept, kep
 use Rattle.qml_machine.specs.KeptDocument.{text_on, kept_text, keep_on, keep_run, keep_start, ends_of}
 use Rattle.qml_machine.proofs.KeptFollows.{lifted, keep_follows}
 use Rattle.qml_machine.proofs.DocumentExact.{HasRead, moves, begun}
-use Rattle.qml_machine.specs.declared.state.Frame.TheVariants as frame
-use Rattle.qml_machine.specs.declared.state.Whose.TheVariants as whose
-use Rattle.qml_machine.specs.declared.state.Count.TheVariants as count
-use Rattle.qml_machine.specs.declared.state.Imported.TheVariants as imported
-use Rattle.qml_machine.specs.declared.state.Now.TheVariants as state
 use Rattle.qml_syntax.specs.declared.node.Node.TheVariants as node
 use Rattle.qml_syntax.specs.Nodes.{Table}
-use Rattle.qml_syntax.specs.Listed.{end_of}
 
 imports_same : (back is : List Import) (s : Table) → listed_imports (onto back is) s ≡ listed_imports is (imports_row back s)
 imports_same [] is s = refl

@@ -51,8 +51,6 @@ use Rattle.qml_machine.specs.DocumentMoves.{ends_tape, value_done, keep_stmt, ke
 use Rattle.qml_machine.specs.declared.state.FirstWord.{FirstWord}
 use Rattle.qml_machine.specs.declared.state.FirstWord.TheVariants as word
 use Rattle.qml_machine.specs.declared.state.Frame.TheVariants as frame
-use Rattle.qml_machine.specs.declared.state.Whose.TheVariants as whose
-use Rattle.qml_machine.specs.declared.state.Count.TheVariants as count
 use Rattle.qml_machine.specs.declared.state.Imported.TheVariants as imported
 use Rattle.qml_machine.specs.declared.state.Now.TheVariants as state
 use Rattle.qml_syntax.specs.Listed.{end_of}

@@ -5,6 +5,7 @@ pub mod StepReads
 pub mod StmtEnds
 pub mod Runs
 pub mod DocumentComplete
+pub mod ObjectFirst
 pub mod Shut
 pub mod DocumentExact
 pub mod DocumentFronts

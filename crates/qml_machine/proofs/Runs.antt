@@ -181,7 +181,7 @@ type_child (t_of {q = v} {n = n} (a_token {t = t} q) (seen {t = d} e) (seen {t =
 pub value_step : (g : Target) (x : State) (t : Token) (next : State) → step x t ≡ Some next → read_step (value g x) t ≡ Some (value g next)
 value_step g x t next h = ap (on_value_stuck g x t) h
 
-no_brace : (e : Expr) (ss : List Step) (fs : Frames) (t : Token) → t.what ≡ k.Mark m.LeftBrace → with_end (closed_at fs 0 (stepped e ss)) t ≡ None → step (have e ss fs) t ≡ None
+pub no_brace : (e : Expr) (ss : List Step) (fs : Frames) (t : Token) → t.what ≡ k.Mark m.LeftBrace → with_end (closed_at fs 0 (stepped e ss)) t ≡ None → step (have e ss fs) t ≡ None
 no_brace e ss fs t q h =
     let P : Bool → Option State = λ v. if v then with_end (closed_at fs 0 (stepped e ss)) t else on_role e ss fs t (role_of t.what) in
     elim (true_or_false (ends_line (last_of (is_open (stepped e ss))) t)) [

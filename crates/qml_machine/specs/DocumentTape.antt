@@ -6,8 +6,6 @@ use Rattle.qml_base.specs.declared.numbers.Place.{Place}
 use Rattle.qml_syntax.specs.Tree.{Units}
 use Rattle.js_machine.specs.Tape.{Tape, tape_of}
 use Rattle.qml_syntax.specs.Tree.{Import, Function, Object}
-use Rattle.qml_syntax.specs.declared.contextual.Adjective.{Adjective}
-use Rattle.qml_syntax.specs.declared.contextual.Version.{Version}
 use Rattle.qml_syntax.specs.Words.{is_type, is_script}
 use Rattle.qml_machine.specs.Open.{Row, Par, SignalPar, Holder, at_root, as_child, as_value, in_objects, Inside, in_object, in_group, Target, of_path, of_property, Home, in_members, in_script, Head, head, Kinded, of_declared, of_signal_par, of_par, of_result, Source, of_text, Reading, imports, at_import, module_named, module_dotted, sourced, at_qualifier, qualified, at_object, object_named, object_dotted, typed, rooted, members, done, path, path_dotted, at_id, id_named, at_property, at_kind, kind_named, kind_dotted, at_element, element_named, kinded, property_named, alias_named, at_target, target, target_dotted, signal_named, signal_opened, signal_par_named, signal_closed, at_function, function_named, function_opened, at_par, par_named, function_closed, body, value, objects, script_begun, at_pragma, at_library, pragma_read, functions}
 use Rattle.qml_machine.specs.Open as open_specs
@@ -22,7 +20,6 @@ use Rattle.qml_machine.specs.declared.state.Imported.TheVariants as imported
 use Rattle.qml_machine.specs.declared.state.Now.TheVariants as state
 use Rattle.qml_syntax.specs.declared.node.Node.TheVariants as node
 use Rattle.qml_syntax.specs.Nodes.{Table}
-use Rattle.qml_syntax.specs.Listed.{end_of}
 use Rattle.qml_machine.specs.declared.state.Frame.{Frame}
 use Rattle.qml_machine.specs.declared.state.Whose.{Whose}
 use Rattle.qml_machine.specs.declared.state.Count.{Count}

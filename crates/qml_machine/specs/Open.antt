@@ -1,9 +1,9 @@
 -- What a reader of documents keeps open, and its states. In a list the latest stands in front.
-use Rattle.std.specs.Prelude.{Bool, List, [], ◌∷◌, Option}
+use Rattle.std.specs.Prelude.{Bool, List, ◌∷◌, Option}
 use Rattle.qml_base.specs.declared.numbers.Place.{Place}
 use Rattle.qml_syntax.specs.Tree.{Units, Close}
 use Rattle.js_machine.specs.Frames.{State}
-use Rattle.qml_syntax.specs.Tree.{Names, Import, import_module, import_text, TypeName, Kind, Pars, a_par, Function, SignalPars, a_signal_par, Object, Members, a_member, Member, property, given, Value, Objects, an_object}
+use Rattle.qml_syntax.specs.Tree.{Names, Import, import_module, import_text, TypeName, Kind, Function, SignalPars, Object, Member, property, given, Value}
 use Rattle.qml_syntax.specs.declared.contextual.Adjective.{Adjective}
 use Rattle.qml_syntax.specs.declared.contextual.Version.{Version}
 pub use Rattle.qml_syntax.specs.Onto.{onto, Row, members_onto, objects_onto, Par, pars_onto, SignalPar, signal_pars_onto}

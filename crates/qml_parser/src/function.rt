@@ -31,7 +31,8 @@ pub fn signal_named(
     token: &Token,
     alloc: Global,
 ) -> Result<Option<Next>, NoMemory>
-    ensures { IfOk result (λ r. Leads (k.keep (tape.kept nodes.old frames.old (state.Function (function_now.SignalNamed at))) token.now) nodes.new frames.new r) }
+    ensures { IfOk result (λ r. Leads (k.keep (tape.kept nodes.old frames.old
+        (state.Function (function_now.SignalNamed at))) token.now) nodes.new frames.new r) }
 {
     if is_left_paren(&token.what) {
         nodes.push(Node::Mark)?;
@@ -49,7 +50,8 @@ pub fn signal_opened(
     kind: &TokenKind,
     alloc: Global,
 ) -> Result<Option<Next>, NoMemory>
-    ensures { (fs : tape.Frames) → IfOk result (λ r. Leads (k.keep_signal_opened nodes.old fs at place kind.now) nodes.new fs r) }
+    ensures { (fs : tape.Frames) →
+        IfOk result (λ r. Leads (k.keep_signal_opened nodes.old fs at place kind.now) nodes.new fs r) }
 {
     if is_right_paren(kind) {
         return Ok(Some(Next::To(Now::Function(FunctionNow::SignalClosed(at)))));
@@ -80,7 +82,8 @@ pub fn function_name(
     kind: &TokenKind,
     alloc: Global,
 ) -> Result<Option<Next>, NoMemory>
-    ensures { (fs : tape.Frames) → IfOk result (λ r. Leads (k.keep_name kind.now (λ x. Some (tape.kept (node.First x place ∷ nodes.old) fs (state.Function (function_now.FunctionNamed at))))) nodes.new fs r) }
+    ensures { (fs : tape.Frames) → IfOk result (λ r. Leads (k.keep_name kind.now (λ x. Some (tape.kept
+        (node.First x place ∷ nodes.old) fs (state.Function (function_now.FunctionNamed at))))) nodes.new fs r) }
 {
     match kind {
         TokenKind::Name(name) => {
@@ -97,7 +100,8 @@ pub fn function_named(
     at: Place,
     kind: &TokenKind,
 ) -> Result<Option<Next>, NoMemory>
-    ensures { (fs : tape.Frames) → IfOk result (λ r. Leads (k.keep_mark (m.is_left_paren kind.now) (tape.kept (node.Mark ∷ nodes.old) fs (state.Function (function_now.FunctionOpened at)))) nodes.new fs r) }
+    ensures { (fs : tape.Frames) → IfOk result (λ r. Leads (k.keep_mark (m.is_left_paren kind.now)
+        (tape.kept (node.Mark ∷ nodes.old) fs (state.Function (function_now.FunctionOpened at)))) nodes.new fs r) }
 {
     if !is_left_paren(kind) {
         return Ok(None);
@@ -113,7 +117,8 @@ pub fn function_opened(
     kind: &TokenKind,
     alloc: Global,
 ) -> Result<Option<Next>, NoMemory>
-    ensures { (fs : tape.Frames) → IfOk result (λ r. Leads (k.keep_function_opened nodes.old fs at kind.now) nodes.new fs r) }
+    ensures { (fs : tape.Frames) →
+        IfOk result (λ r. Leads (k.keep_function_opened nodes.old fs at kind.now) nodes.new fs r) }
 {
     match kind {
         TokenKind::Mark(Mark::RightParen) => {
@@ -134,7 +139,8 @@ pub fn par_name(
     kind: &TokenKind,
     alloc: Global,
 ) -> Result<Option<Next>, NoMemory>
-    ensures { (fs : tape.Frames) → IfOk result (λ r. Leads (k.keep_name kind.now (λ x. Some (tape.kept (node.ParameterName x ∷ nodes.old) fs (state.Function (function_now.ParNamed at))))) nodes.new fs r) }
+    ensures { (fs : tape.Frames) → IfOk result (λ r. Leads (k.keep_name kind.now (λ x. Some (tape.kept
+        (node.ParameterName x ∷ nodes.old) fs (state.Function (function_now.ParNamed at))))) nodes.new fs r) }
 {
     match kind {
         TokenKind::Name(name) => {
@@ -173,7 +179,8 @@ pub fn function_closed(
     at: Place,
     kind: &TokenKind,
 ) -> Result<Option<Next>, NoMemory>
-    ensures { (fs : tape.Frames) → IfOk result (λ r. Leads (k.keep_function_closed nodes.old fs at kind.now) nodes.new fs r) }
+    ensures { (fs : tape.Frames) →
+        IfOk result (λ r. Leads (k.keep_function_closed nodes.old fs at kind.now) nodes.new fs r) }
 {
     match kind {
         TokenKind::Mark(Mark::Colon) => {
@@ -201,7 +208,8 @@ pub fn functions(place: Place, kind: &TokenKind) -> Option<Next>
 
 /// At the start of a script file.
 pub fn script_start(frames: &mut Frames, token: &Token) -> Result<Option<Next>, NoMemory>
-    ensures found { (s : Table) → IfOk result (λ r. Leads (k.keep (tape.kept s frames.old (state.Script script_now.ScriptBegun)) token.now) s frames.new r) }
+    ensures found { (s : Table) → IfOk result
+        (λ r. Leads (k.keep (tape.kept s frames.old (state.Script script_now.ScriptBegun)) token.now) s frames.new r) }
     ensures kept { IfOk result (λ r. r ≡ None → frames.new ≡ frames.old) }
 {
     if is_dot(&token.what) {
@@ -214,7 +222,8 @@ pub fn script_start(frames: &mut Frames, token: &Token) -> Result<Option<Next>, 
 
 /// `pragma` behind a dot.
 pub fn pragma_word(kind: &TokenKind) -> Option<Next>
-    ensures { (s : Table) (fs : tape.Frames) → Leads (k.keep_name kind.now (λ x. k.keep_mark (bytes_eq x (codes "pragma")) (tape.kept s fs (state.Script script_now.AtLibrary)))) s fs result }
+    ensures { (s : Table) (fs : tape.Frames) → Leads (k.keep_name kind.now (λ x.
+        k.keep_mark (bytes_eq x (codes "pragma")) (tape.kept s fs (state.Script script_now.AtLibrary)))) s fs result }
 {
     match kind {
         TokenKind::Name(name) => {
@@ -230,7 +239,8 @@ pub fn pragma_word(kind: &TokenKind) -> Option<Next>
 
 /// `library` behind `pragma`.
 pub fn library_word(kind: &TokenKind) -> Option<Next>
-    ensures { (s : Table) (fs : tape.Frames) → Leads (k.keep_name kind.now (λ x. k.keep_mark (bytes_eq x (codes "library")) (tape.kept s fs (state.Script script_now.PragmaRead)))) s fs result }
+    ensures { (s : Table) (fs : tape.Frames) → Leads (k.keep_name kind.now (λ x.
+        k.keep_mark (bytes_eq x (codes "library")) (tape.kept s fs (state.Script script_now.PragmaRead)))) s fs result }
 {
     match kind {
         TokenKind::Name(name) => {
@@ -246,7 +256,8 @@ pub fn library_word(kind: &TokenKind) -> Option<Next>
 
 /// Behind `.pragma library`, which a line end ends.
 pub fn pragma_end(token: &Token) -> Option<Next>
-    ensures { (s : Table) (fs : tape.Frames) → Leads (if token.now.after_line then k.keep_functions s fs token.now.place token.now.what else None) s fs result }
+    ensures { (s : Table) (fs : tape.Frames) → Leads
+        (if token.now.after_line then k.keep_functions s fs token.now.place token.now.what else None) s fs result }
 {
     if token.after_line {
         functions(token.place, &token.what)

@@ -30,7 +30,8 @@ pub fn imports(
     kind: &TokenKind,
     alloc: Global,
 ) -> Result<Option<Next>, NoMemory>
-    ensures { (fs : tape.Frames) → IfOk result (λ r. Leads (k.keep_imports nodes.old fs place kind.now) nodes.new fs r) }
+    ensures { (fs : tape.Frames) →
+        IfOk result (λ r. Leads (k.keep_imports nodes.old fs place kind.now) nodes.new fs r) }
 {
     match kind {
         TokenKind::Word(Word::Import) => Ok(Some(Next::To(Now::Import(ImportNow::AtImport)))),
@@ -83,7 +84,8 @@ pub fn import_end(
     token: &Token,
     alloc: Global,
 ) -> Result<Option<Next>, NoMemory>
-    ensures { (fs : tape.Frames) → IfOk result (λ r. Leads (k.keep_import_end (that_tail tail) what nodes.old fs token.now) nodes.new fs r) }
+    ensures { (fs : tape.Frames) →
+        IfOk result (λ r. Leads (k.keep_import_end (that_tail tail) what nodes.old fs token.now) nodes.new fs r) }
 {
     if is_semi(&token.what) {
         nodes.push(import_node(what, Close::Semi))?;
@@ -114,7 +116,8 @@ pub fn sourced(
     token: &Token,
     alloc: Global,
 ) -> Result<Option<Next>, NoMemory>
-    ensures { (fs : tape.Frames) → IfOk result (λ r. Leads (k.keep_sourced (that_tail tail) what nodes.old fs token.now) nodes.new fs r) }
+    ensures { (fs : tape.Frames) →
+        IfOk result (λ r. Leads (k.keep_sourced (that_tail tail) what nodes.old fs token.now) nodes.new fs r) }
 {
     if is_as(&token.what) {
         return Ok(Some(Next::To(Now::Import(ImportNow::AtQualifier(what)))));
@@ -139,7 +142,8 @@ fn version(kind: &TokenKind) -> Option<Version>
 
 /// Behind a name of a module.
 pub fn module(nodes: &mut Nodes, token: &Token, alloc: Global) -> Result<Option<Next>, NoMemory>
-    ensures { (fs : tape.Frames) → IfOk result (λ r. Leads (k.keep_module nodes.old fs token.now token.now.what) nodes.new fs r) }
+    ensures { (fs : tape.Frames) →
+        IfOk result (λ r. Leads (k.keep_module nodes.old fs token.now token.now.what) nodes.new fs r) }
 {
     if is_dot(&token.what) {
         return Ok(Some(Next::To(Now::Import(ImportNow::ModuleDotted))));
@@ -162,7 +166,8 @@ pub fn module_dotted(
     kind: &TokenKind,
     alloc: Global,
 ) -> Result<Option<Next>, NoMemory>
-    ensures { (fs : tape.Frames) → IfOk result (λ r. Leads (k.keep_name kind.now (λ x. Some (tape.kept (node.Dot x ∷ nodes.old) fs (state.Import import_now.ModuleNamed)))) nodes.new fs r) }
+    ensures { (fs : tape.Frames) → IfOk result (λ r. Leads (k.keep_name kind.now
+        (λ x. Some (tape.kept (node.Dot x ∷ nodes.old) fs (state.Import import_now.ModuleNamed)))) nodes.new fs r) }
 {
     match kind {
         TokenKind::Name(name) => {
@@ -180,7 +185,8 @@ pub fn qualifier(
     kind: &TokenKind,
     alloc: Global,
 ) -> Result<Option<Next>, NoMemory>
-    ensures { (fs : tape.Frames) → IfOk result (λ r. Leads (k.keep_name kind.now (λ q. Some (tape.kept (node.Qualifier q ∷ nodes.old) fs (state.Import (import_now.Qualified what))))) nodes.new fs r) }
+    ensures { (fs : tape.Frames) → IfOk result (λ r. Leads (k.keep_name kind.now (λ q. Some
+        (tape.kept (node.Qualifier q ∷ nodes.old) fs (state.Import (import_now.Qualified what))))) nodes.new fs r) }
 {
     match kind {
         TokenKind::Name(name) => {
@@ -198,7 +204,8 @@ pub fn object_name(
     kind: &TokenKind,
     alloc: Global,
 ) -> Result<Option<Next>, NoMemory>
-    ensures { (fs : tape.Frames) → IfOk result (λ r. Leads (k.keep_name kind.now (λ x. Some (tape.kept (node.First x place ∷ nodes.old) fs (state.Object (object_now.ObjectNamed (w.is_type x)))))) nodes.new fs r) }
+    ensures { (fs : tape.Frames) → IfOk result (λ r. Leads (k.keep_name kind.now (λ x. Some (tape.kept
+        (node.First x place ∷ nodes.old) fs (state.Object (object_now.ObjectNamed (w.is_type x)))))) nodes.new fs r) }
 {
     match kind {
         TokenKind::Name(name) => {
@@ -216,7 +223,8 @@ pub fn object_named(
     types: bool,
     kind: &TokenKind,
 ) -> Result<Option<Next>, NoMemory>
-    ensures { IfOk result (λ r. Leads (k.keep_object_named types nodes.old frames.old kind.now) nodes.new frames.new r) }
+    ensures { IfOk result
+        (λ r. Leads (k.keep_object_named types nodes.old frames.old kind.now) nodes.new frames.new r) }
 {
     match kind {
         TokenKind::Mark(Mark::Dot) => Ok(Some(Next::To(Now::Object(ObjectNow::ObjectDotted)))),
@@ -238,7 +246,8 @@ pub fn object_dotted(
     kind: &TokenKind,
     alloc: Global,
 ) -> Result<Option<Next>, NoMemory>
-    ensures { (fs : tape.Frames) → IfOk result (λ r. Leads (k.keep_name kind.now (λ x. k.keep_mark (w.is_type x) (tape.kept (node.Dot x ∷ nodes.old) fs (state.Object object_now.Typed)))) nodes.new fs r) }
+    ensures { (fs : tape.Frames) → IfOk result (λ r. Leads (k.keep_name kind.now (λ x. k.keep_mark
+        (w.is_type x) (tape.kept (node.Dot x ∷ nodes.old) fs (state.Object object_now.Typed)))) nodes.new fs r) }
 {
     match kind {
         TokenKind::Name(name) => {
@@ -258,7 +267,8 @@ pub fn typed(
     frames: &mut Frames,
     kind: &TokenKind,
 ) -> Result<Option<Next>, NoMemory>
-    ensures { IfOk result (λ r. Leads (k.keep_mark (m.is_left_brace kind.now) (k.keep_opened nodes.old frames.old)) nodes.new frames.new r) }
+    ensures { IfOk result (λ r.
+        Leads (k.keep_mark (m.is_left_brace kind.now) (k.keep_opened nodes.old frames.old)) nodes.new frames.new r) }
 {
     if is_left_brace(kind) {
         let next = opened(nodes, frames)?;

@@ -30,7 +30,8 @@ pub fn kind_start(
     kind: &TokenKind,
     alloc: Global,
 ) -> Result<Option<Next>, NoMemory>
-    ensures { (fs : tape.Frames) → IfOk result (λ r. Leads (k.keep_kind whose nodes.old fs place kind.now) nodes.new fs r) }
+    ensures { (fs : tape.Frames) →
+        IfOk result (λ r. Leads (k.keep_kind whose nodes.old fs place kind.now) nodes.new fs r) }
 {
     match kind {
         TokenKind::Name(name) => {
@@ -48,7 +49,8 @@ pub fn kind_start(
 
 /// The name of an alias behind the kind `alias`: the place where its property begins, and whether `default` stands there.
 fn alias_head(whose: Whose, kind: &TokenKind) -> Option<(Place, bool, &Text)>
-    ensures { MatchOption result (g.head_of whose kind.now ≡ None) (λ head. g.head_of whose kind.now ≡ Some (head.0, head.1, head.2.now)) }
+    ensures { MatchOption result
+        (g.head_of whose kind.now ≡ None) (λ head. g.head_of whose kind.now ≡ Some (head.0, head.1, head.2.now)) }
 {
     match whose {
         Whose::Declared(at, adjective) => match kind {
@@ -72,7 +74,8 @@ fn declared(
     place: Place,
     alloc: Global,
 ) -> Result<Next, NoMemory>
-    ensures { (fs : tape.Frames) → IfOk result (λ r. reached nodes.new fs r ≡ tape.kept (node.First name.now place ∷ nodes.old) fs (state.Member (member_now.PropertyNamed at adjective))) }
+    ensures { (fs : tape.Frames) → IfOk result (λ r. reached nodes.new fs r ≡
+        tape.kept (node.First name.now place ∷ nodes.old) fs (state.Member (member_now.PropertyNamed at adjective))) }
 {
     nodes.push(Node::First(copied(name, alloc)?, place))?;
     Ok(Next::To(Now::Member(MemberNow::PropertyNamed(at, adjective))))
@@ -86,7 +89,8 @@ pub fn kinded(
     kind: &TokenKind,
     alloc: Global,
 ) -> Result<Option<Next>, NoMemory>
-    ensures { (base : Table) (fs : tape.Frames) → IfOk result (λ r. Leads (k.keep_kinded whose false nodes.old base fs place kind.now) nodes.new fs r) }
+    ensures { (base : Table) (fs : tape.Frames) →
+        IfOk result (λ r. Leads (k.keep_kinded whose false nodes.old base fs place kind.now) nodes.new fs r) }
 {
     match whose {
         Whose::Declared(at, adjective) => match kind {
@@ -117,7 +121,8 @@ fn parameter_kinded(
     at: Place,
     kind: &TokenKind,
 ) -> Result<Option<Next>, NoMemory>
-    ensures { (is_alias : Bool) (base : Table) (fs : tape.Frames) (place : Place) → IfOk result (λ r. Leads (k.keep_kinded (whose_of.Parameter at) is_alias nodes.old base fs place kind.now) nodes.new fs r) }
+    ensures { (is_alias : Bool) (base : Table) (fs : tape.Frames) (place : Place) → IfOk result
+        (λ r. Leads (k.keep_kinded (whose_of.Parameter at) is_alias nodes.old base fs place kind.now) nodes.new fs r) }
 {
     match kind {
         TokenKind::Mark(Mark::Comma) => {
@@ -141,7 +146,8 @@ fn alias_name(
     place: Place,
     alloc: Global,
 ) -> Result<Option<Next>, NoMemory>
-    ensures { (fs : tape.Frames) → IfOk result (λ r. Leads (Some (tape.kept (node.First name.now place ∷ k.popped nodes.old) fs (state.Member (member_now.AliasNamed at is_default)))) nodes.new fs r) }
+    ensures { (fs : tape.Frames) → IfOk result (λ r. Leads (Some (tape.kept (node.First name.now place ∷
+        k.popped nodes.old) fs (state.Member (member_now.AliasNamed at is_default)))) nodes.new fs r) }
 {
     nodes.pop();
     nodes.push(Node::First(copied(name, alloc)?, place))?;
@@ -156,7 +162,8 @@ fn alias_named(
     kind: &TokenKind,
     alloc: Global,
 ) -> Result<Option<Next>, NoMemory>
-    ensures { (fs : tape.Frames) → IfOk result (λ r. Leads (k.keep_kinded whose true (node.KindName ∷ nodes.old) nodes.old fs place kind.now) nodes.new fs r) }
+    ensures { (fs : tape.Frames) → IfOk result
+        (λ r. Leads (k.keep_kinded whose true (node.KindName ∷ nodes.old) nodes.old fs place kind.now) nodes.new fs r) }
 {
     match alias_head(whose, kind) {
         Some((at, is_default, name)) => alias_name(nodes, at, is_default, name, place, alloc),
@@ -169,7 +176,8 @@ fn alias_named(
 
 /// `<` behind the first name of a kind: whether it is `list`.
 fn element_start(nodes: &mut Nodes, whose: Whose, is_list: bool) -> Option<Next>
-    ensures { (fs : tape.Frames) → Leads (if is_list then Some (tape.kept (k.popped nodes.old) fs (state.Kind (kind_now.AtElement whose))) else None) nodes.new fs result }
+    ensures { (fs : tape.Frames) → Leads (if is_list then Some
+        (tape.kept (k.popped nodes.old) fs (state.Kind (kind_now.AtElement whose))) else None) nodes.new fs result }
 {
     if is_list {
         nodes.pop();
@@ -187,7 +195,8 @@ pub fn kind_named(
     kind: &TokenKind,
     alloc: Global,
 ) -> Result<Option<Next>, NoMemory>
-    ensures { (fs : tape.Frames) → IfOk result (λ r. Leads (k.keep_kind_named found.0 found.1 found.2 nodes.old fs place kind.now) nodes.new fs r) }
+    ensures { (fs : tape.Frames) → IfOk result
+        (λ r. Leads (k.keep_kind_named found.0 found.1 found.2 nodes.old fs place kind.now) nodes.new fs r) }
 {
     let (whose, is_alias, is_list) = found;
     if is_dot(kind) {
@@ -210,7 +219,8 @@ pub fn kind_dotted(
     kind: &TokenKind,
     alloc: Global,
 ) -> Result<Option<Next>, NoMemory>
-    ensures { (fs : tape.Frames) → IfOk result (λ r. Leads (k.keep_name kind.now (λ x. Some (tape.kept (node.Dot x ∷ nodes.old) fs (state.Kind (kind_now.KindNamed whose false false))))) nodes.new fs r) }
+    ensures { (fs : tape.Frames) → IfOk result (λ r. Leads (k.keep_name kind.now (λ x. Some
+        (tape.kept (node.Dot x ∷ nodes.old) fs (state.Kind (kind_now.KindNamed whose false false))))) nodes.new fs r) }
 {
     match kind {
         TokenKind::Name(name) => {
@@ -229,7 +239,8 @@ pub fn element_name(
     kind: &TokenKind,
     alloc: Global,
 ) -> Result<Option<Next>, NoMemory>
-    ensures { (fs : tape.Frames) → IfOk result (λ r. Leads (k.keep_name kind.now (λ x. Some (tape.kept (node.KindList x place ∷ nodes.old) fs (state.Kind (kind_now.ElementNamed whose))))) nodes.new fs r) }
+    ensures { (fs : tape.Frames) → IfOk result (λ r. Leads (k.keep_name kind.now (λ x. Some (tape.kept
+        (node.KindList x place ∷ nodes.old) fs (state.Kind (kind_now.ElementNamed whose))))) nodes.new fs r) }
 {
     match kind {
         TokenKind::Name(name) => {
@@ -242,7 +253,8 @@ pub fn element_name(
 
 /// `>` behind the name of what a list holds.
 pub fn element_end(whose: Whose, kind: &TokenKind) -> Option<Next>
-    ensures { (s : Table) (fs : tape.Frames) → Leads (k.keep_mark (m.is_greater kind.now) (tape.kept s fs (state.Kind (kind_now.Kinded whose)))) s fs result }
+    ensures { (s : Table) (fs : tape.Frames) →
+        Leads (k.keep_mark (m.is_greater kind.now) (tape.kept s fs (state.Kind (kind_now.Kinded whose)))) s fs result }
 {
     if is_greater(kind) {
         Some(Next::To(Now::Kind(KindNow::Kinded(whose))))

@@ -22,7 +22,8 @@ const MEMBERS: Next = Next::To(Now::Member(MemberNow::Members));
 
 /// Behind a value: its member has been read.
 pub fn valued(nodes: &mut Nodes, frames: &mut Frames) -> Result<(), NoMemory>
-    ensures { IfOk result (λ _. k.keep_valued nodes.old frames.old ≡ kept nodes.new frames.new (state.Member member_now.Done)) }
+    ensures { IfOk result
+        (λ _. k.keep_valued nodes.old frames.old ≡ kept nodes.new frames.new (state.Member member_now.Done)) }
 {
     match frames.pop() {
         Some(Frame::Path) => nodes.push(Node::Given)?,
@@ -136,7 +137,8 @@ pub fn done(
     token: &Token,
     alloc: Global,
 ) -> Result<Option<Next>, NoMemory>
-    ensures { IfOk result (λ r. Leads (k.keep_done nodes.old frames.old token.now.place token.now.what) nodes.new frames.new r) }
+    ensures { IfOk result
+        (λ r. Leads (k.keep_done nodes.old frames.old token.now.place token.now.what) nodes.new frames.new r) }
 {
     if is_semi(&token.what) {
         nodes.push(Node::Semi)?;
@@ -155,7 +157,9 @@ pub fn member(
     token: &Token,
     alloc: Global,
 ) -> Result<Option<Next>, NoMemory>
-    ensures { IfOk result (λ r. Leads (k.keep_end (that_tail tail) token.now (kept (ways.0 ∷ nodes.old) frames.old (state.Member member_now.Done)) (k.keep_done (ways.1 ∷ nodes.old) frames.old token.now.place token.now.what)) nodes.new frames.new r) }
+    ensures { IfOk result (λ r. Leads
+        (k.keep_end (that_tail tail) token.now (kept (ways.0 ∷ nodes.old) frames.old (state.Member member_now.Done))
+        (k.keep_done (ways.1 ∷ nodes.old) frames.old token.now.place token.now.what)) nodes.new frames.new r) }
 {
     let (by_semi, by_auto) = ways;
     if is_semi(&token.what) {

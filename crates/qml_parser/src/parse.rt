@@ -28,7 +28,8 @@ const FIRST_PLACE: Place = Place { line: 1, column: 1 };
 
 /// Where the tokens end or no read prefix goes on: whether there is a tree, whose nodes these are then.
 fn finish_file(nodes: &mut Nodes, frames: &mut Frames, state: State) -> Result<bool, NoMemory>
-    ensures { (inner : List n.Node) (around : List f.Frame) → IfOk result (λ r. kept_text (kept_in nodes.old frames.old inner around state) ≡ (if r then Some nodes.new else None)) }
+    ensures { (inner : List n.Node) (around : List f.Frame) → IfOk result
+        (λ r. kept_text (kept_in nodes.old frames.old inner around state) ≡ (if r then Some nodes.new else None)) }
 {
     match state {
         State::At(Now::Object(ObjectNow::Rooted)) => nodes.push(Node::Document)?,
@@ -45,7 +46,8 @@ fn finish_file(nodes: &mut Nodes, frames: &mut Frames, state: State) -> Result<b
 
 /// Opens a document or a script file.
 fn start(is_script: bool, nodes: &mut Nodes, frames: &mut Frames) -> Result<State, NoMemory>
-    ensures { (inner : List n.Node) (around : List f.Frame) → IfOk result (λ state. nodes.old ≡ [] → frames.old ≡ [] → kept_in nodes.new frames.new inner around state ≡ keep_start (entry_of is_script)) }
+    ensures { (inner : List n.Node) (around : List f.Frame) → IfOk result (λ state. nodes.old ≡ [] →
+        frames.old ≡ [] → kept_in nodes.new frames.new inner around state ≡ keep_start (entry_of is_script)) }
 {
     nodes.push(Node::Mark)?;
     if is_script {
@@ -65,7 +67,9 @@ fn read_file(
     tokens: &[Token],
     alloc: Global,
 ) -> Result<(bool, usize), NoMemory>
-    ensures { IfOk result (λ r. (keep_run tokens.now (kept_in nodes.old frames.old [] [] first) ≡ record { tree = if r.0 then Some nodes.new else None; rest = drop r.1 tokens.now }) × (r.1 ≤ length tokens.now)) }
+    ensures { IfOk result (λ r. (keep_run tokens.now (kept_in nodes.old frames.old [] [] first) ≡
+        record { tree = if r.0 then Some nodes.new else None; rest = drop r.1 tokens.now }) ×
+        (r.1 ≤ length tokens.now)) }
 {
     let mut inner = Nodes::new(alloc);
     let mut around = Stack::new(alloc);
@@ -88,7 +92,8 @@ fn read_file(
 
 /// Reads tokens from the first on: the nodes, whether they are a tree's, and how many tokens are read.
 fn front(alloc: Global, is_script: bool, tokens: &[Token]) -> Result<(Nodes, bool, usize), NoMemory>
-    ensures { IfOk result (λ r. (keep_run tokens.now (keep_start (entry_of is_script)) ≡ record { tree = if r.1 then Some r.0 else None; rest = drop r.2 tokens.now }) × (r.2 ≤ length tokens.now)) }
+    ensures { IfOk result (λ r. (keep_run tokens.now (keep_start (entry_of is_script)) ≡
+        record { tree = if r.1 then Some r.0 else None; rest = drop r.2 tokens.now }) × (r.2 ≤ length tokens.now)) }
 {
     let mut nodes = Nodes::new(alloc);
     let mut frames = Frames::new(alloc);
@@ -124,7 +129,8 @@ fn place_at(tokens: &[Token], at: usize) -> Place
 
 /// Reads a document or a script file.
 fn parse(alloc: Global, is_script: bool, tokens: &[Token]) -> Result<Tree, ParseFault>
-    ensures { (before : List Token) (e : Token) → tokens.now ≡ before ++ e ∷ [] → e.what ≡ k.End → Mirrors (parse_of (entry_of is_script) tokens.now) result }
+    ensures { (before : List Token) (e : Token) →
+        tokens.now ≡ before ++ e ∷ [] → e.what ≡ k.End → Mirrors (parse_of (entry_of is_script) tokens.now) result }
 {
     match front(alloc, is_script, tokens) {
         Err(_) => Err(ParseFault::NoMemory),
@@ -146,14 +152,16 @@ fn parse(alloc: Global, is_script: bool, tokens: &[Token]) -> Result<Tree, Parse
 /// Syntax Basics" and "QML Object Attributes", as far as `qml_syntax`'s `ReadsDocument` says). So `Syntax` is told before
 /// `TooDeep`. Nothing recurses. Where the last token isn't the end of the file, nothing is said of the answer.
 pub fn parse_document(alloc: Global, tokens: &[Token]) -> Result<Tree, ParseFault>
-    ensures { (before : List Token) (e : Token) → tokens.now ≡ before ++ e ∷ [] → e.what ≡ k.End → TellsText Lists a_document before e result }
+    ensures { (before : List Token) (e : Token) →
+        tokens.now ≡ before ++ e ∷ [] → e.what ≡ k.End → TellsText Lists a_document before e result }
 {
     parse(alloc, false, tokens)
 }
 
 /// Reads the tokens of a script file, which is functions alone, likewise (Qt 5.15, "Defining JavaScript Resources in QML").
 pub fn parse_functions(alloc: Global, tokens: &[Token]) -> Result<Tree, ParseFault>
-    ensures { (before : List Token) (e : Token) → tokens.now ≡ before ++ e ∷ [] → e.what ≡ k.End → TellsText Lists a_script before e result }
+    ensures { (before : List Token) (e : Token) →
+        tokens.now ≡ before ++ e ∷ [] → e.what ≡ k.End → TellsText Lists a_script before e result }
 {
     parse(alloc, true, tokens)
 }

@@ -38,7 +38,8 @@ fn path_name(
     place: Place,
     alloc: Global,
 ) -> Result<Option<Next>, NoMemory>
-    ensures { (fs : tape.Frames) → IfOk result (λ r. Leads (k.keep_path_name word nodes.old fs at name.now place) nodes.new fs r) }
+    ensures { (fs : tape.Frames) →
+        IfOk result (λ r. Leads (k.keep_path_name word nodes.old fs at name.now place) nodes.new fs r) }
 {
     match word {
         FirstWord::Property => {
@@ -91,7 +92,9 @@ pub fn path(
     kind: &TokenKind,
     alloc: Global,
 ) -> Result<Option<Next>, NoMemory>
-    ensures { IfOk result (λ r. Leads (k.keep_path nodes.old frames.old found.0 found.1 found.2 found.3 found.4 place kind.now) nodes.new frames.new r) }
+    ensures { IfOk result
+        (λ r. Leads (k.keep_path nodes.old frames.old found.0 found.1 found.2 found.3 found.4 place kind.now)
+        nodes.new frames.new r) }
 {
     let (at, count, word, is_id, types) = found;
     match kind {
@@ -122,7 +125,9 @@ fn path_colon(
     at: Place,
     is_id: bool,
 ) -> Result<Option<Next>, NoMemory>
-    ensures { IfOk result (λ r. Leads (if is_id then Some (tape.kept (k.popped nodes.old) frames.old (state.Member (member_now.AtId at))) else Some (tape.kept_value nodes.old (frame.Path ∷ frames.old) k.begun_value)) nodes.new frames.new r) }
+    ensures { IfOk result
+        (λ r. Leads (if is_id then Some (tape.kept (k.popped nodes.old) frames.old (state.Member (member_now.AtId at)))
+        else Some (tape.kept_value nodes.old (frame.Path ∷ frames.old) k.begun_value)) nodes.new frames.new r) }
 {
     if is_id {
         nodes.pop();
@@ -135,7 +140,8 @@ fn path_colon(
 
 /// `{` behind a path, which may name a type or not.
 fn path_brace(nodes: &mut Nodes, frames: &mut Frames, types: bool) -> Result<Option<Next>, NoMemory>
-    ensures { IfOk result (λ r. Leads (if types then Some (k.keep_opened nodes.old frames.old) else Some (tape.kept (node.Mark ∷ nodes.old) (frame.Group ∷ frames.old) (state.Member member_now.Members))) nodes.new frames.new r) }
+    ensures { IfOk result (λ r. Leads (if types then Some (k.keep_opened nodes.old frames.old) else Some (tape.kept
+        (node.Mark ∷ nodes.old) (frame.Group ∷ frames.old) (state.Member member_now.Members))) nodes.new frames.new r) }
 {
     if types {
         let next = opened(nodes, frames)?;
@@ -155,7 +161,9 @@ pub fn path_dotted(
     kind: &TokenKind,
     alloc: Global,
 ) -> Result<Option<Next>, NoMemory>
-    ensures { (fs : tape.Frames) → IfOk result (λ r. Leads (k.keep_name kind.now (λ x. Some (tape.kept (node.Dot x ∷ nodes.old) fs (state.Member (member_now.Path at (k.next_count count) word.Other false (k.next_types count x)))))) nodes.new fs r) }
+    ensures { (fs : tape.Frames) →
+        IfOk result (λ r. Leads (k.keep_name kind.now (λ x. Some (tape.kept (node.Dot x ∷ nodes.old) fs (state.Member
+        (member_now.Path at (k.next_count count) word.Other false (k.next_types count x)))))) nodes.new fs r) }
 {
     match kind {
         TokenKind::Name(name) => {
@@ -189,7 +197,8 @@ pub fn id_name(
     kind: &TokenKind,
     alloc: Global,
 ) -> Result<Option<Next>, NoMemory>
-    ensures { (fs : tape.Frames) → IfOk result (λ r. Leads (k.keep_name kind.now (λ x. k.keep_mark (w.is_id x) (tape.kept (node.First x place ∷ nodes.old) fs (state.Member (member_now.IdNamed at))))) nodes.new fs r) }
+    ensures { (fs : tape.Frames) → IfOk result (λ r. Leads (k.keep_name kind.now (λ x. k.keep_mark (w.is_id x)
+        (tape.kept (node.First x place ∷ nodes.old) fs (state.Member (member_now.IdNamed at))))) nodes.new fs r) }
 {
     match kind {
         TokenKind::Name(name) => {
@@ -205,7 +214,9 @@ pub fn id_name(
 
 /// The word `property` behind `default`.
 pub fn property_word(at: Place, adjective: Adjective, kind: &TokenKind) -> Option<Next>
-    ensures { (s : Table) (fs : tape.Frames) → Leads (k.keep_name kind.now (λ x. k.keep_mark (bytes_eq x (codes "property")) (tape.kept s fs (state.Kind (kind_now.AtKind (whose.Declared at adjective)))))) s fs result }
+    ensures { (s : Table) (fs : tape.Frames) →
+        Leads (k.keep_name kind.now (λ x. k.keep_mark (bytes_eq x (codes "property"))
+        (tape.kept s fs (state.Kind (kind_now.AtKind (whose.Declared at adjective)))))) s fs result }
 {
     match kind {
         TokenKind::Name(name) => {
@@ -228,7 +239,8 @@ pub fn property(
     token: &Token,
     alloc: Global,
 ) -> Result<Option<Next>, NoMemory>
-    ensures { IfOk result (λ r. Leads (k.keep_property nodes.old frames.old at adjective token.now) nodes.new frames.new r) }
+    ensures { IfOk result
+        (λ r. Leads (k.keep_property nodes.old frames.old at adjective token.now) nodes.new frames.new r) }
 {
     if is_colon(&token.what) {
         frames.push(Frame::Property(at, adjective))?;
@@ -248,7 +260,8 @@ pub fn property(
 
 /// `:` behind the name of an alias.
 pub fn alias_colon(at: Place, is_default: bool, kind: &TokenKind) -> Option<Next>
-    ensures { (s : Table) (fs : tape.Frames) → Leads (k.keep_mark (m.is_colon kind.now) (tape.kept s fs (state.Member (member_now.AtTarget at is_default)))) s fs result }
+    ensures { (s : Table) (fs : tape.Frames) → Leads (k.keep_mark
+        (m.is_colon kind.now) (tape.kept s fs (state.Member (member_now.AtTarget at is_default)))) s fs result }
 {
     if is_colon(kind) {
         Some(Next::To(Now::Member(MemberNow::AtTarget(at, is_default))))
@@ -266,7 +279,9 @@ pub fn target_name(
     kind: &TokenKind,
     alloc: Global,
 ) -> Result<Option<Next>, NoMemory>
-    ensures { (fs : tape.Frames) → IfOk result (λ r. Leads (k.keep_name kind.now (λ x. Some (tape.kept (node.First x place ∷ nodes.old) fs (state.Member (member_now.Target at is_default count.Zero))))) nodes.new fs r) }
+    ensures { (fs : tape.Frames) →
+        IfOk result (λ r. Leads (k.keep_name kind.now (λ x. Some (tape.kept (node.First x place ∷ nodes.old) fs
+        (state.Member (member_now.Target at is_default count.Zero))))) nodes.new fs r) }
 {
     match kind {
         TokenKind::Name(name) => {
@@ -286,7 +301,8 @@ pub fn target_dotted(
     kind: &TokenKind,
     alloc: Global,
 ) -> Result<Option<Next>, NoMemory>
-    ensures { (fs : tape.Frames) → IfOk result (λ r. Leads (k.keep_name kind.now (λ x. Some (tape.kept (node.Dot x ∷ nodes.old) fs (state.Member (member_now.Target at is_default (k.next_count count)))))) nodes.new fs r) }
+    ensures { (fs : tape.Frames) → IfOk result (λ r. Leads (k.keep_name kind.now (λ x. Some (tape.kept (node.Dot x ∷
+        nodes.old) fs (state.Member (member_now.Target at is_default (k.next_count count)))))) nodes.new fs r) }
 {
     match kind {
         TokenKind::Name(name) => {
@@ -308,7 +324,8 @@ pub fn target(
     token: &Token,
     alloc: Global,
 ) -> Result<Option<Next>, NoMemory>
-    ensures { IfOk result (λ r. Leads (k.keep_target nodes.old frames.old at is_default count token.now) nodes.new frames.new r) }
+    ensures { IfOk result
+        (λ r. Leads (k.keep_target nodes.old frames.old at is_default count token.now) nodes.new frames.new r) }
 {
     let full = match count {
         Count::More => true,

@@ -63,7 +63,8 @@ fn in_import(
     token: &Token,
     alloc: Global,
 ) -> Result<Option<Next>, NoMemory>
-    ensures { IfOk result (λ r. Leads (k.keep (kept nodes.old frames.old (state.Import now)) token.now) nodes.new frames.new r) }
+    ensures { IfOk result
+        (λ r. Leads (k.keep (kept nodes.old frames.old (state.Import now)) token.now) nodes.new frames.new r) }
 {
     let (place, kind) = (token.place, &token.what);
     match now {
@@ -85,7 +86,8 @@ fn in_object(
     token: &Token,
     alloc: Global,
 ) -> Result<Option<Next>, NoMemory>
-    ensures { IfOk result (λ r. Leaves (k.keep (kept nodes.old frames.old (state.Object now)) token.now) (kept_text (kept nodes.old frames.old (state.Object now))) (state.Object now) nodes.new frames.new r) }
+    ensures { IfOk result (λ r. Leaves (k.keep (kept nodes.old frames.old (state.Object now)) token.now)
+        (kept_text (kept nodes.old frames.old (state.Object now))) (state.Object now) nodes.new frames.new r) }
 {
     let (place, kind) = (token.place, &token.what);
     match now {
@@ -106,7 +108,8 @@ fn in_member(
     token: &Token,
     alloc: Global,
 ) -> Result<Option<Next>, NoMemory>
-    ensures { IfOk result (λ r. Leads (k.keep (kept nodes.old frames.old (state.Member now)) token.now) nodes.new frames.new r) }
+    ensures { IfOk result
+        (λ r. Leads (k.keep (kept nodes.old frames.old (state.Member now)) token.now) nodes.new frames.new r) }
 {
     let (place, kind) = (token.place, &token.what);
     match now {
@@ -151,7 +154,8 @@ fn in_kind(
     token: &Token,
     alloc: Global,
 ) -> Result<Option<Next>, NoMemory>
-    ensures { IfOk result (λ r. Leads (k.keep (kept nodes.old frames.old (state.Kind now)) token.now) nodes.new frames.new r) }
+    ensures { IfOk result
+        (λ r. Leads (k.keep (kept nodes.old frames.old (state.Kind now)) token.now) nodes.new frames.new r) }
 {
     let (place, kind) = (token.place, &token.what);
     match now {
@@ -174,7 +178,8 @@ fn in_function(
     token: &Token,
     alloc: Global,
 ) -> Result<Option<Next>, NoMemory>
-    ensures { IfOk result (λ r. Leads (k.keep (kept nodes.old frames.old (state.Function now)) token.now) nodes.new frames.new r) }
+    ensures { IfOk result
+        (λ r. Leads (k.keep (kept nodes.old frames.old (state.Function now)) token.now) nodes.new frames.new r) }
 {
     let (place, kind) = (token.place, &token.what);
     match now {
@@ -204,7 +209,8 @@ fn in_script(
     now: ScriptNow,
     token: &Token,
 ) -> Result<Option<Next>, NoMemory>
-    ensures { IfOk result (λ r. Leaves (k.keep (kept nodes.now frames.old (state.Script now)) token.now) (kept_text (kept nodes.now frames.old (state.Script now))) (state.Script now) nodes.now frames.new r) }
+    ensures { IfOk result (λ r. Leaves (k.keep (kept nodes.now frames.old (state.Script now)) token.now)
+        (kept_text (kept nodes.now frames.old (state.Script now))) (state.Script now) nodes.now frames.new r) }
 {
     let (place, kind) = (token.place, &token.what);
     match now {
@@ -224,7 +230,8 @@ fn outside(
     token: &Token,
     alloc: Global,
 ) -> Result<Option<Next>, NoMemory>
-    ensures { IfOk result (λ r. Leaves (k.keep (kept nodes.old frames.old now) token.now) (kept_text (kept nodes.old frames.old now)) now nodes.new frames.new r) }
+    ensures { IfOk result (λ r. Leaves (k.keep (kept nodes.old frames.old now) token.now)
+        (kept_text (kept nodes.old frames.old now)) now nodes.new frames.new r) }
 {
     match now {
         Now::Import(now) => in_import(nodes, frames, now, token, alloc),
@@ -246,7 +253,9 @@ pub fn step_file(
     token: &Token,
     alloc: Global,
 ) -> Result<Option<State>, NoMemory>
-    ensures { IfOk result (λ r. Goes (k.keep (kept_in nodes.old frames.old inner.old around.old state) token.now) (kept_text (kept_in nodes.old frames.old inner.old around.old state)) nodes.new frames.new inner.new around.new state r) }
+    ensures { IfOk result
+        (λ r. Goes (k.keep (kept_in nodes.old frames.old inner.old around.old state) token.now) (kept_text
+        (kept_in nodes.old frames.old inner.old around.old state)) nodes.new frames.new inner.new around.new state r) }
 {
     match state {
         State::At(now) => match outside(nodes, frames, now, token, alloc)? {

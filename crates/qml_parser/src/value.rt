@@ -180,7 +180,8 @@ fn push_name(nodes: &mut Nodes, inner: &mut Nodes, node: Node) -> Result<(), NoM
 
 /// Moves the name of a type to the nodes of the document, and opens its object.
 fn open_named(nodes: &mut Nodes, frames: &mut Frames, inner: &mut Nodes) -> Result<(), NoMemory>
-    ensures { IfOk result (λ _. k.keep_opened (s.named_on inner.old nodes.old) frames.old ≡ tape.kept nodes.new frames.new (state.Member member_now.Members)) }
+    ensures { IfOk result (λ _. k.keep_opened (s.named_on inner.old nodes.old) frames.old ≡
+        tape.kept nodes.new frames.new (state.Member member_now.Members)) }
 {
     match inner.pop() {
         Some(node) => push_name(nodes, inner, node)?,
@@ -209,7 +210,8 @@ fn ends(now: js_machine::Now, token: &Token) -> bool
 
 /// Opens what is read next.
 pub fn begin(inner: &mut Nodes, around: &mut Stack, next: Next) -> Result<State, NoMemory>
-    ensures { (nodes : Table) (frames : tape.Frames) → IfOk result (λ state. reached nodes frames next ≡ kept_in nodes frames inner.new around.new state) }
+    ensures { (nodes : Table) (frames : tape.Frames) →
+        IfOk result (λ state. reached nodes frames next ≡ kept_in nodes frames inner.new around.new state) }
 {
     match next {
         Next::To(now) => Ok(State::At(now)),
@@ -253,7 +255,8 @@ fn value_end(
     token: &Token,
     alloc: Global,
 ) -> Result<Option<State>, NoMemory>
-    ensures { IfOk result (λ r. LeadsIn (s.ended nodes.old frames.old token.now (rest_whole rest around.old inner.old)) nodes.new frames.new inner.new around.new r) }
+    ensures { IfOk result (λ r. LeadsIn (s.ended nodes.old frames.old token.now (rest_whole rest around.old inner.old))
+        nodes.new frames.new inner.new around.new r) }
 {
     if !finish(inner, around, rest)? {
         return Ok(None);
@@ -280,7 +283,8 @@ fn value_brace(
     alloc: Global,
 ) -> Result<Option<State>, NoMemory>
     requires { d.is_left_brace token.now.what ≡ true }
-    ensures { IfOk result (λ r. LeadsIn (k.keep (tape.kept_value nodes.old frames.old (js.tape inner.old around.old now)) token.now) nodes.new frames.new inner.new around.new r) }
+    ensures { IfOk result (λ r. LeadsIn (k.keep (tape.kept_value nodes.old frames.old
+        (js.tape inner.old around.old now)) token.now) nodes.new frames.new inner.new around.new r) }
 {
     match shape_now(inner, around, now) {
         Shape::Object => {
@@ -313,7 +317,8 @@ pub fn value(
     token: &Token,
     alloc: Global,
 ) -> Result<Option<State>, NoMemory>
-    ensures { IfOk result (λ r. LeadsIn (k.keep (tape.kept_value nodes.old frames.old (js.tape inner.old around.old now)) token.now) nodes.new frames.new inner.new around.new r) }
+    ensures { IfOk result (λ r. LeadsIn (k.keep (tape.kept_value nodes.old frames.old
+        (js.tape inner.old around.old now)) token.now) nodes.new frames.new inner.new around.new r) }
 {
     if is_left_brace(&token.what) {
         return value_brace(nodes, frames, inner, around, now, token, alloc);
@@ -332,7 +337,8 @@ pub fn value(
 
 /// Behind the block of a function at a place.
 fn function(nodes: &mut Nodes, frames: &mut Frames, place: Place) -> Result<Now, NoMemory>
-    ensures { (part : Table) (below : Table) → IfOk result (λ now. nodes.old ≡ part ++ below → k.keep_function below frames.old place part ≡ tape.kept nodes.new frames.new now) }
+    ensures { (part : Table) (below : Table) → IfOk result (λ now. nodes.old ≡ part ++ below →
+        k.keep_function below frames.old place part ≡ tape.kept nodes.new frames.new now) }
 {
     nodes.push(Node::Function(place))?;
     match frames.pop() {
@@ -356,7 +362,8 @@ fn body_end(
     rest: Rest,
     place: Place,
 ) -> Result<Option<State>, NoMemory>
-    ensures { IfOk result (λ r. LeadsIn (k.keep_body_end nodes.old frames.old place (rest_whole rest around.old inner.old)) nodes.new frames.new inner.new around.new r) }
+    ensures { IfOk result (λ r. LeadsIn (k.keep_body_end nodes.old frames.old place
+        (rest_whole rest around.old inner.old)) nodes.new frames.new inner.new around.new r) }
 {
     if !finish(inner, around, rest)? {
         return Ok(None);
@@ -377,7 +384,8 @@ pub fn body(
     token: &Token,
     alloc: Global,
 ) -> Result<Option<State>, NoMemory>
-    ensures { IfOk result (λ r. LeadsIn (k.keep (tape.kept_body nodes.old frames.old place (js.tape inner.old around.old now)) token.now) nodes.new frames.new inner.new around.new r) }
+    ensures { IfOk result (λ r. LeadsIn (k.keep (tape.kept_body nodes.old frames.old place
+        (js.tape inner.old around.old now)) token.now) nodes.new frames.new inner.new around.new r) }
 {
     match step(inner, around, now, token, alloc)? {
         Moved::To(next) => Ok(Some(State::Body(place, next))),

@@ -130,7 +130,8 @@ impl Descent {
 
     /// Takes what is to be found next, with how many nodes are among what is to be found, it included.
     fn pop(&mut self) -> Option<(usize, Task)>
-        ensures { MatchOption result ((self.old.0 ≡ []) × (self.new ≡ self.old)) (λ p. (self.old ≡ (p.1 ∷ self.new.0, self.new.1)) × (p.0 ≡ f.depth self.old.0)) }
+        ensures { MatchOption result ((self.old.0 ≡ []) × (self.new ≡ self.old))
+            (λ p. (self.old ≡ (p.1 ∷ self.new.0, self.new.1)) × (p.0 ≡ f.depth self.old.0)) }
     {
         let depth = self.around;
         match self.tasks.pop() {

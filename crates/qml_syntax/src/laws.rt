@@ -24,25 +24,29 @@ pub fn expression_is_flat()
 /// A statement written out is the tokens that it reads, in a loop and outside.
 #[tactic(auto, using(crate::proofs::FlatLemmas::is_flat_stmt))]
 pub fn statement_is_flat()
-    ensures { (looped : Bool) (s : Stmt) (tokens rest : List Token) → ReadsStmt looped s tokens rest → kinds_of tokens ≡ flat_stmt s ++ kinds_of rest }
+    ensures { (looped : Bool) (s : Stmt) (tokens rest : List Token) →
+        ReadsStmt looped s tokens rest → kinds_of tokens ≡ flat_stmt s ++ kinds_of rest }
 {}
 
 /// A list of statements written out is the tokens that it reads.
 #[tactic(auto, using(crate::proofs::FlatLemmas::is_flat_stmts))]
 pub fn body_is_flat()
-    ensures { (looped : Bool) (ss : Stmts) (tokens rest : List Token) → ReadsStmts looped ss tokens rest → kinds_of tokens ≡ flat_stmts ss ++ kinds_of rest }
+    ensures { (looped : Bool) (ss : Stmts) (tokens rest : List Token) →
+        ReadsStmts looped ss tokens rest → kinds_of tokens ≡ flat_stmts ss ++ kinds_of rest }
 {}
 
 /// A document written out is the tokens that it reads.
 #[tactic(auto, using(crate::proofs::FlatDocumentLemmas::document_is))]
 pub fn document_is_flat()
-    ensures { (d : Document) (tokens rest : List Token) → ReadsDocument d tokens rest → kinds_of tokens ≡ flat_document d ++ kinds_of rest }
+    ensures { (d : Document) (tokens rest : List Token) →
+        ReadsDocument d tokens rest → kinds_of tokens ≡ flat_document d ++ kinds_of rest }
 {}
 
 /// A script file written out is the tokens that it reads.
 #[tactic(auto, using(crate::proofs::FlatDocumentLemmas::script_is))]
 pub fn script_is_flat()
-    ensures { (s : Script) (tokens rest : List Token) → ReadsScript s tokens rest → kinds_of tokens ≡ flat_script s ++ kinds_of rest }
+    ensures { (s : Script) (tokens rest : List Token) →
+        ReadsScript s tokens rest → kinds_of tokens ≡ flat_script s ++ kinds_of rest }
 {}
 
 /// An expression is too deep at the first of its nodes that stands deeper than 100, and nowhere where none does.
@@ -108,7 +112,8 @@ pub fn level_is_made()
 /// The node of an opened level makes the part at its place of those at the places of its parts, whatever stands before.
 #[tactic(auto, using(crate::proofs::GatherLemmas::opened_is_made))]
 pub fn opened_level_is_made()
-    ensures { (t : Table) (at : ℕ) (x : Node) (places : List ℕ) → IsLevel t at x places → (s : Parts) → apply x (reverse (map (item_at t) places) ++ s) ≡ item_at t at ∷ s }
+    ensures { (t : Table) (at : ℕ) (x : Node) (places : List ℕ) →
+        IsLevel t at x places → (s : Parts) → apply x (reverse (map (item_at t) places) ++ s) ≡ item_at t at ∷ s }
 {}
 
 /// The parts of a node stand at its places, in their order.
@@ -120,7 +125,8 @@ pub fn parts_stand_at_places()
 /// Each place is that of a part in one node only: what stands behind it is what stands behind it in any node.
 #[tactic(auto, using(crate::proofs::PlacesLemmas::stands_once))]
 pub fn part_stands_once()
-    ensures { (t : Table) (at place : ℕ) (before rest : List ℕ) → IsListing t → places_of t at ≡ before ++ place ∷ rest → behind t place ≡ rest }
+    ensures { (t : Table) (at place : ℕ) (before rest : List ℕ) →
+        IsListing t → places_of t at ≡ before ++ place ∷ rest → behind t place ≡ rest }
 {}
 
 /// A part has one node more than the parts that it takes together.

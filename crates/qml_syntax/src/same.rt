@@ -23,7 +23,8 @@ pub fn same_node(a: &Node, b: &Node) -> bool
 
 /// Whether two nodes are equal, where the first is one of an expression but no chain.
 fn same_in_expression(a: &Node, b: &Node) -> Option<bool>
-    ensures { MatchOption result ((is_of_chain a.now || is_of_statement a.now || is_named a.now || is_of_object a.now) ≡ true) (λ same. IsTrue same ↔ (a.now ≡ b.now)) }
+    ensures { MatchOption result ((is_of_chain a.now || is_of_statement a.now || is_named a.now || is_of_object a.now) ≡
+        true) (λ same. IsTrue same ↔ (a.now ≡ b.now)) }
 {
     Some(match a {
         Node::Mark => b.is_mark(),

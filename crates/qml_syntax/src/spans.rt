@@ -21,7 +21,8 @@ impl Spans {
     pub fn before(&self, end: usize) -> usize
         requires started { Started self.now.nodes.items self.now.starts.items }
         requires few { end ≤ length self.now.starts.items }
-        ensures parts { standing (reverse self.now.nodes.items) result ≡ below (standing (reverse self.now.nodes.items) end) }
+        ensures parts { standing (reverse self.now.nodes.items) result ≡
+            below (standing (reverse self.now.nodes.items) end) }
         ensures back { result ≤ end - 1 }
     {
         if end == 0 { 0 } else { self.starts[end - 1] }
@@ -31,7 +32,8 @@ impl Spans {
     fn back(&self, count: usize, end: usize) -> usize
         requires started { Started self.now.nodes.items self.now.starts.items }
         requires few { end ≤ length self.now.starts.items }
-        ensures parts { standing (reverse self.now.nodes.items) result ≡ drop count (standing (reverse self.now.nodes.items) end) }
+        ensures parts { standing (reverse self.now.nodes.items) result ≡
+            drop count (standing (reverse self.now.nodes.items) end) }
         ensures back { result ≤ end }
     {
         let mut start = end;
@@ -45,7 +47,8 @@ impl Spans {
     fn back_to(&self, edge: Edge, end: usize) -> usize
         requires started { Started self.now.nodes.items self.now.starts.items }
         requires few { end ≤ length self.now.starts.items }
-        ensures parts { standing (reverse self.now.nodes.items) result ≡ past edge (standing (reverse self.now.nodes.items) end) }
+        ensures parts { standing (reverse self.now.nodes.items) result ≡
+            past edge (standing (reverse self.now.nodes.items) end) }
         ensures back { result ≤ end }
     {
         let mut start = end;
@@ -63,7 +66,8 @@ impl Spans {
     fn back_over(&self, taking: Taking, end: usize) -> usize
         requires started { Started self.now.nodes.items self.now.starts.items }
         requires few { end ≤ length self.now.starts.items }
-        ensures parts { standing (reverse self.now.nodes.items) result ≡ left taking (standing (reverse self.now.nodes.items) end) }
+        ensures parts { standing (reverse self.now.nodes.items) result ≡
+            left taking (standing (reverse self.now.nodes.items) end) }
         ensures back { result ≤ end }
     {
         match taking {

@@ -99,7 +99,8 @@ impl Tree {
     /// or another part at this place. So a place is a name of a part that takes no time to follow.
     pub fn node(&self, at: usize) -> Option<&Node>
         ensures listing { IsListing self.now }
-        ensures found { MatchOption result (length self.now ≤ at) (λ node. (at < length self.now) × (node.now ≡ node_of (item_at self.now at))) }
+        ensures found { MatchOption result
+            (length self.now ≤ at) (λ node. (at < length self.now) × (node.now ≡ node_of (item_at self.now at))) }
     {
         if at < self.nodes.len() {
             Some(&self.nodes[at])
@@ -111,7 +112,8 @@ impl Tree {
     /// Where the node of the first part of the node at this place stands, if it takes parts. Where a node takes any number
     /// of parts, the first is the mark.
     pub fn first(&self, at: usize) -> Option<usize>
-        ensures { MatchOption result (places_of self.now at ≡ []) (λ part. places_of self.now at ≡ part ∷ behind self.now part) }
+        ensures { MatchOption result
+            (places_of self.now at ≡ []) (λ part. places_of self.now at ≡ part ∷ behind self.now part) }
     {
         if at < self.links.firsts.len() {
             place_before(self.links.firsts[at])
@@ -122,7 +124,8 @@ impl Tree {
 
     /// Where the node of the part behind this one in its node stands, if there is one.
     pub fn next(&self, part: usize) -> Option<usize>
-        ensures { MatchOption result (behind self.now part ≡ []) (λ next. behind self.now part ≡ next ∷ behind self.now next) }
+        ensures { MatchOption result
+            (behind self.now part ≡ []) (λ next. behind self.now part ≡ next ∷ behind self.now next) }
     {
         if part < self.links.nexts.len() {
             place_before(self.links.nexts[part])
@@ -135,7 +138,8 @@ impl Tree {
     /// `parts`, in the order of writing; where a node takes any number of parts, the first is the mark. On an error `parts`
     /// is as before.
     pub fn open(&self, at: usize, parts: &mut Vec<usize>) -> Result<Option<&Node>, NoMemory>
-        ensures opened { IfOk result (λ o. MatchOption o ((length self.now ≤ at) × (parts.new.items ≡ parts.old.items)) (λ node. (ps : List ℕ) × (parts.new.items ≡ parts.old.items ++ ps) × IsLevel self.now at node.now ps)) }
+        ensures opened { IfOk result (λ o. MatchOption o ((length self.now ≤ at) × (parts.new.items ≡ parts.old.items))
+            (λ node. (ps : List ℕ) × (parts.new.items ≡ parts.old.items ++ ps) × IsLevel self.now at node.now ps)) }
         ensures exact { IfOk result (λ _. parts.new.items ≡ parts.old.items ++ places_of self.now at) }
         ensures kept { OnErr result (parts.new.items ≡ parts.old.items) }
     {

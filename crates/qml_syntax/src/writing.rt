@@ -210,7 +210,8 @@ impl Writing {
 
     /// Adds the end of a list or of fields, with a comma before it or not.
     fn add_end(&mut self, comma: bool, mark: Mark) -> Result<(), NoMemory>
-        ensures { OnOk result (self.new ≡ (reverse (f.trailing comma ++ Piece.Mark mark ∷ []) ++ self.old.0, self.old.1)) }
+        ensures { OnOk result
+            (self.new ≡ (reverse (f.trailing comma ++ Piece.Mark mark ∷ []) ++ self.old.0, self.old.1)) }
     {
         if comma {
             self.add(&[Piece::Mark(Mark::Comma), Piece::Mark(mark)])
@@ -586,7 +587,8 @@ impl Writing {
 
     /// Takes a node as the next of a declaration's names and values, or as the mark before them.
     fn take_var(&mut self, alloc: Global, node: &Node, comma: bool) -> Result<(), NoMemory>
-        ensures { OnOk result (self.new ≡ f.item (is_mark node.now) node.now comma (f.vars_stay (f.is_var node.now)) self.old.0 self.old.1) }
+        ensures { OnOk result (self.new ≡
+            f.item (is_mark node.now) node.now comma (f.vars_stay (f.is_var node.now)) self.old.0 self.old.1) }
     {
         let more = Piece::Parts(Parts::Vars(true));
         if node.is_var() {
@@ -599,7 +601,8 @@ impl Writing {
 
     /// Takes a node as a step behind an expression, or as the expression before all steps.
     fn take_step(&mut self, alloc: Global, node: &Node) -> Result<(), NoMemory>
-        ensures { OnOk result (self.new ≡ f.opened node.now (f.steps_stay (f.is_step node.now) ++ self.old.0) self.old.1) }
+        ensures { OnOk result
+            (self.new ≡ f.opened node.now (f.steps_stay (f.is_step node.now) ++ self.old.0) self.old.1) }
     {
         if node.is_step() {
             self.add(&[STEPS])?;
@@ -609,7 +612,8 @@ impl Writing {
 
     /// Takes a node as a kind behind a colon, or as its absence.
     fn take_kind(&mut self, alloc: Global, node: &Node) -> Result<(), NoMemory>
-        ensures { OnOk result (self.new ≡ f.opened node.now (f.kind_stay (f.is_no_kind node.now) ++ self.old.0) self.old.1) }
+        ensures { OnOk result
+            (self.new ≡ f.opened node.now (f.kind_stay (f.is_no_kind node.now) ++ self.old.0) self.old.1) }
     {
         if !node.is_no_kind() {
             self.add(&[COLON])?;

@@ -38,20 +38,26 @@ pub fn each_module_offers_a_name_once()
 
 /// A type is found by a module and a name exactly where the table has a row of them that gives it.
 pub fn types_are_found_where_offered()
-    ensures { (from name : List ℕ) (type : TypeNo) → (offered offers from name ≡ Some type) ↔ IsOffered offers from name type }
+    ensures { (from name : List ℕ) (type : TypeNo) →
+        (offered offers from name ≡ Some type) ↔ IsOffered offers from name type }
 {}
 
 /// A cell is found by a name exactly where the type has it and it is shown by this name, and a signal and a method exactly
 /// where the type has one of the name.
 pub fn members_are_found_by_name()
-    ensures cells { (type : TypeNo) (name : List ℕ) (cell : TypeCell) → (found (cells_of type) name ≡ Some cell) ↔ IsProperty (cells_of type) name cell }
-    ensures signals { (type : TypeNo) (name : List ℕ) (signal : TypeSignal) → (signal_named (signals_of type) name ≡ Some signal) ↔ IsSignal (signals_of type) name signal }
-    ensures methods { (type : TypeNo) (name : List ℕ) (method : Method) → (method_named (methods_of type) name ≡ Some method) ↔ IsMethod (methods_of type) name method }
+    ensures cells { (type : TypeNo) (name : List ℕ) (cell : TypeCell) →
+        (found (cells_of type) name ≡ Some cell) ↔ IsProperty (cells_of type) name cell }
+    ensures signals { (type : TypeNo) (name : List ℕ) (signal : TypeSignal) →
+        (signal_named (signals_of type) name ≡ Some signal) ↔ IsSignal (signals_of type) name signal }
+    ensures methods { (type : TypeNo) (name : List ℕ) (method : Method) →
+        (method_named (methods_of type) name ≡ Some method) ↔ IsMethod (methods_of type) name method }
 {}
 
 /// A value that was converted to a kind converts to itself there, so converting again changes nothing; and so does the
 /// default of each kind but a list, to which nothing converts.
 pub fn converted_values_stay()
-    ensures again { (kind : PropKind) (types : List TypeRef) (value as_kind : Value) → IsConverted kind types value (Ok as_kind) → IsConverted kind types as_kind (Ok as_kind) }
-    ensures defaults { (kind : PropKind) (types : List TypeRef) → ((type : TypeRef) → kind ≢ kinds.List type) → IsConverted kind types (default_of kind) (Ok (default_of kind)) }
+    ensures again { (kind : PropKind) (types : List TypeRef) (value as_kind : Value) →
+        IsConverted kind types value (Ok as_kind) → IsConverted kind types as_kind (Ok as_kind) }
+    ensures defaults { (kind : PropKind) (types : List TypeRef) →
+        ((type : TypeRef) → kind ≢ kinds.List type) → IsConverted kind types (default_of kind) (Ok (default_of kind)) }
 {}

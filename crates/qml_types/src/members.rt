@@ -260,7 +260,8 @@ pub fn enumeration_texts(name: &str) -> Option<&'static [&'static str]>
 
 /// The texts of the first of these that has the name.
 fn texts_in(known: &'static [Enumeration], name: &str) -> Option<&'static [&'static str]>
-    ensures { option_map (λ texts. map (λ text. text.now) texts.now) result ≡ s.texts_in (map s.enumeration_of known.now) name.now }
+    ensures { option_map (λ texts. map (λ text. text.now) texts.now) result ≡
+        s.texts_in (map s.enumeration_of known.now) name.now }
 {
     'known: for enumeration in known {
         if enumeration.name == name {

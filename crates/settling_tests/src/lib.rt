@@ -3,4 +3,10 @@
 #![tactic(auto)]
 
 #[cfg(test)]
+mod large;
+#[cfg(test)]
+mod rules;
+#[cfg(test)]
+mod stores;
+#[cfg(test)]
 mod tests;

@@ -14,19 +14,19 @@ use std::sync::ledger::{Blank, Ledger};
 use std::test::Fail;
 use tree_model::{Binding, Content, NewCell, Report, Rule};
 
-fn cell(object: u32, place: u32) -> CellNo {
+pub fn cell(object: u32, place: u32) -> CellNo {
     CellNo {
         object: ObjNo(object),
         place,
     }
 }
 
-fn number(n: u32) -> Value {
+pub fn number(n: u32) -> Value {
     Value::Num(Num::small(n))
 }
 
 /// A binding by a text of a unit, whose scope object is 1, written in another object.
-fn bound(unit: u32, at: u32, author: u32) -> Content {
+pub fn bound(unit: u32, at: u32, author: u32) -> Content {
     Content::Bound(Binding {
         rule: Rule::Text(
             ExprNo {
@@ -43,7 +43,7 @@ fn bound(unit: u32, at: u32, author: u32) -> Content {
     })
 }
 
-fn new_cell(kind: PropKind, content: Content) -> NewCell {
+pub fn new_cell(kind: PropKind, content: Content) -> NewCell {
     NewCell {
         kind,
         content,
@@ -51,7 +51,7 @@ fn new_cell(kind: PropKind, content: Content) -> NewCell {
     }
 }
 
-fn held(tree: &LiveTree, c: CellNo) -> Option<i64> {
+pub fn held(tree: &LiveTree, c: CellNo) -> Option<i64> {
     if !tree.has_cell(c) {
         return None;
     }

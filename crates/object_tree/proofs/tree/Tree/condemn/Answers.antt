@@ -1,19 +1,27 @@
-use Rattle.std.proofs.Common.{◌≡◌, ◌∙◌, ap, subst, length, vec_len, arith}
-use Rattle.object_tree.specs.Trees.{IsAt}
-use Rattle.tree_model.specs.Removing.{doomed_of}
+use Rattle.std.proofs.Common.{◌≡◌, subst, length, vec_len, arith}
+use Rattle.object_tree.specs.declared.links.Tie.TheVariants as by_tie
+use Rattle.object_tree.specs.Spreading.{Spreads}
 use Rattle.object_tree.proofs.MarkLemmas.{seam}
+use Rattle.object_tree.proofs.SpreadLemmas.{spread_placed, spread_ordered, spread_up_to, spread_tied}
 use Rattle.object_tree.proofs.tree.Tree.condemn.Goals as goal
 
 pub invariant_of-self : goal.invariant_of-self
 invariant_of-self c =
-    let all : length c.condemn.new.objects ≡ c.self.inside.objects.len = omega arith in
-    let back = seam c.condemn.new.objects c.self.inside.objects.items c.self.inside.objects.len all in
-    let inv = c.self.invariant in (
-      c.list_doomed.ensures.items ∙ ap doomed_of c.as_slice-2.ensures.value,
+    let old = c.self.inside in
+    let inv = c.self.invariant in
+    let all : length c.condemn.new.objects ≡ old.objects.len = omega arith in
+    let back = seam c.condemn.new.objects old.objects.items old.objects.len all in
+    let es = c.condemn.ensures.spread.0 in
+    let spreads = subst (λ xs. Spreads c.args.o xs old.doomed.items c.condemn.new.objects es) c.as_mut_slice.ensures.value c.condemn.ensures.spread.1 in
+    let more = c.condemn.ensures.capacity in (
+      rw back c.condemn.ensures.listed,
       omega arith,
-      rw back (subst (λ p. IsAt p c.condemn.new.objects) c.as_slice.ensures.value c.condemn.ensures.placed),
-      rw back c.condemn.ensures.ordered,
-      rw back (c.condemn.ensures.given (vec_len c.self.inside.places) (rw c.as_mut_slice.ensures.value inv.4)),
+      rw back (spread_placed c.args.o old.objects.items old.doomed.items old.places.items c.condemn.new.objects es spreads inv.2),
+      rw back (spread_ordered c.args.o old.objects.items old.doomed.items 0 c.condemn.new.objects es spreads inv.3),
+      rw back (spread_up_to c.args.o old.objects.items old.doomed.items (vec_len old.places) c.condemn.new.objects es spreads inv.4),
       inv.5,
       inv.6,
+      rw back (spread_tied c.args.o old.objects.items old.doomed.items by_tie.Owned old.owned.last.items old.owned.before.items c.condemn.new.objects es spreads inv.7),
+      rw back (spread_tied c.args.o old.objects.items old.doomed.items by_tie.Made old.made.last.items old.made.before.items c.condemn.new.objects es spreads inv.8),
+      rw back c.condemn.ensures.whole,
     )

@@ -1,0 +1,4 @@
+pub mod WalkLemmas
+pub mod MatchLemmas
+pub mod StepLemmas
+pub mod PathLemmas

@@ -1,0 +1,6 @@
+pub mod Numbers
+pub mod Contents
+pub mod NamesMade
+pub mod Cells
+pub mod Changes
+pub mod Plans

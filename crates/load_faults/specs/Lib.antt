@@ -1,0 +1,12 @@
+pub mod Faults
+pub mod Duplicates
+pub mod Properties
+pub mod Kinds
+pub mod Aliases
+pub mod States
+pub mod NamesInCode
+pub mod Code
+pub mod Effects
+pub mod Cycles
+pub mod Loading
+pub mod NotYet

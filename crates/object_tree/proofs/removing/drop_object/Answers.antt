@@ -1,0 +1,7 @@
+use Rattle.std.proofs.Common.{◌∙◌, rules}
+use Rattle.std.proofs.lemmas.Fn.{filter_same}
+use Rattle.object_tree.proofs.DropLemmas.{objects_filter}
+use Rattle.object_tree.proofs.removing.drop_object.Goals as goal
+
+pub returns-clause-items : goal.returns-clause-items
+returns-clause-items c = filter_same _ _ _ (λ x b f' k. search rules) _ _ c.retain.ensures.filtered ∙ objects_filter c.args.o c.args.objects.now.items

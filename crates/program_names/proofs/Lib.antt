@@ -1,0 +1,2 @@
+pub mod ExampleFiles
+mod ReadingLemmas

@@ -1,0 +1,12 @@
+pub mod Names
+pub mod Paths
+pub mod Utf8
+pub mod Written
+pub mod Literals
+pub mod Types
+pub mod Reading
+pub mod Loaded
+pub mod Layers
+pub mod Components
+pub mod PathMeanings
+pub mod ComponentRoots

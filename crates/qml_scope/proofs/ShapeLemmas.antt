@@ -1,0 +1,40 @@
+-- Types in a map, and instances taken away.
+use Rattle.std.proofs.Common.{◌≡◌, ◌∙◌, ap, sym, refl, cond, nat_eq, not, Bool, true, false, List, [], ◌∷◌, map, filter, Option, None, Some, if◌then◌else◌}
+use Rattle.std.specs.declared.alloc.Global.{Global}
+use Rattle.std.specs.declared.vec.Vec.{Vec}
+use Rattle.std.specs.Map.{lookup}
+use Rattle.qml_base.specs.declared.numbers.ObjNo.{ObjNo}
+use Rattle.qml_types.specs.declared.kind.TypeRef.{TypeRef}
+use Rattle.qml_scope.specs.declared.shape.Shape.{Shape}
+use Rattle.qml_scope.specs.Shapes.{types_among, told_pair, instances_but, same_object}
+
+abbrev Entries : Type 0
+Entries = List (ObjNo × Vec TypeRef Global)
+
+abbrev pub types_or : Option (Vec TypeRef Global) → List TypeRef
+types_or None = []
+types_or (Some v) = v.items
+
+pub types_alike : (es : Entries) (o : ObjNo) → types_or (lookup (λ (k : ObjNo). nat_eq o.0 k.0) es) ≡ types_among (map told_pair es) o
+types_alike [] o = refl
+types_alike (e ∷ es) o = by_key (nat_eq o.0 e.0.0) (types_alike es o)
+  where
+    by_key : (b : Bool) → types_or (lookup (λ (k : ObjNo). nat_eq o.0 k.0) es) ≡ types_among (map told_pair es) o → types_or (cond b (Some e.1) (lookup (λ (k : ObjNo). nat_eq o.0 k.0) es)) ≡ (if b then e.1.items else types_among (map told_pair es) o)
+    by_key true rest = refl
+    by_key false rest = rest
+
+cond_types : (b : Bool) (w : Option (Vec TypeRef Global)) (r : Option (Vec TypeRef Global)) → types_or (cond b w r) ≡ (if b then types_or w else types_or r)
+cond_types true w r = refl
+cond_types false w r = refl
+
+pub types_updated : (es after : Entries) (o : ObjNo) (w : Option (Vec TypeRef Global)) → ((q : ObjNo) → lookup (λ (k : ObjNo). nat_eq q.0 k.0) after ≡ cond (nat_eq o.0 q.0) w (lookup (λ (k : ObjNo). nat_eq q.0 k.0) es)) → (p : ObjNo) → types_among (map told_pair after) p ≡ (if same_object o p then types_or w else types_among (map told_pair es) p)
+types_updated es after o w updates p =
+    sym (types_alike after p) ∙ ap types_or (updates p) ∙ cond_types (nat_eq o.0 p.0) w (lookup (λ (k : ObjNo). nat_eq p.0 k.0) es) ∙ ap (λ ts. if nat_eq o.0 p.0 then types_or w else ts) (types_alike es p)
+
+pub instances_filter : (root : ObjNo) (ss : List Shape) → filter (λ (s : Shape). not (nat_eq s.root.0 root.0)) ss ≡ instances_but root ss
+instances_filter root [] = refl
+instances_filter root (s ∷ ss) = by_root (nat_eq s.root.0 root.0) refl (instances_filter root ss)
+  where
+    by_root : (b : Bool) → nat_eq s.root.0 root.0 ≡ b → filter (λ (x : Shape). not (nat_eq x.root.0 root.0)) ss ≡ instances_but root ss → filter (λ (x : Shape). not (nat_eq x.root.0 root.0)) (s ∷ ss) ≡ (if b then instances_but root ss else s ∷ instances_but root ss)
+    by_root true is later = rw is later
+    by_root false is later = rw is (ap (λ rest. s ∷ rest) later)

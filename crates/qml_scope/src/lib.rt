@@ -1,0 +1,15 @@
+//! What names find from a home, over the live instances of components: `Shapes` is the table of these and of the types
+//! of objects, `resolve` and `member` are the definitions of `specs/Shapes.antt` exactly.
+#![tactic(auto)]
+
+mod instances;
+mod looking;
+mod named;
+mod resolving;
+mod shape;
+mod shapes;
+
+pub use named::Named;
+pub use resolving::{is_id, member, resolve};
+pub use shape::{Entry, Shape};
+pub use shapes::Shapes;

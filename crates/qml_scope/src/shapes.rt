@@ -1,0 +1,141 @@
+//! The live instances, and the types of objects.
+
+ghost use Rattle.std.specs.Prelude.{◌≡◌, ◌++◌, ◌∷◌, [], OnOk, OnErr, option_copied};
+ghost use Rattle.qml_scope.specs.Shapes.{TellsOf, types_among, instances_but, is_component, name_of_cell, has_delegate};
+ghost use Rattle.qml_types.specs.declared.kind.TypeRef.TheVariants.{Builtin as builtin};
+ghost use Rattle.qml_types.specs.declared.kind.TypeNo.TheVariants as no;
+ghost use Rattle.tree_model.specs.Converting.{same_type, has_type};
+
+use crate::instances::{cell_name, has_delegate};
+use crate::shape::Shape;
+use indexmap::IndexMap;
+use qml_base::{CellNo, NoMemory, ObjNo};
+use qml_types::{TypeNo, TypeRef};
+use std::alloc::Global;
+use std::marker::Model;
+
+/// The live instances of components in the order in which they were added, and the types of live objects.
+#[derive(Drop)]
+pub struct Shapes {
+    instances: Vec<Shape>,
+    told: IndexMap<ObjNo, Vec<TypeRef>>,
+}
+
+impl Model for Shapes {
+    ghost use Rattle.std.specs.Prelude.{map};
+    ghost use Rattle.qml_scope.specs.Shapes.{Known, told_pair};
+
+    ghost Value = { Known };
+
+    ghost view = { λ shapes. record { instances = shapes.instances.items; told = map told_pair shapes.told.entries } };
+}
+
+fn is_component_type(t: TypeRef) -> bool
+    ensures { result ≡ same_type t (builtin no.Component) }
+{
+    match t {
+        TypeRef::Builtin(TypeNo::Component) => true,
+        _ => false,
+    }
+}
+
+fn has_component(types: &[TypeRef]) -> bool
+    ensures { result ≡ has_type types.now (builtin no.Component) }
+{
+    for t in types {
+        if is_component_type(*t) {
+            return true;
+        }
+    }
+    false
+}
+
+impl Shapes {
+    /// No instances and no types. It takes no memory.
+    pub fn new(alloc: Global) -> Shapes
+        ensures instances { result.instances ≡ [] }
+        ensures told { result.told ≡ [] }
+    {
+        Shapes {
+            instances: Vec::new(alloc),
+            told: IndexMap::new(alloc),
+        }
+    }
+
+    /// The live instances, in the order in which they were added.
+    pub fn instances(&self) -> &[Shape]
+        ensures { result.now ≡ self.now.instances }
+    {
+        self.instances.as_slice()
+    }
+
+    /// Adds an instance behind the others. Without memory nothing changes.
+    pub fn add(&mut self, instance: Shape) -> Result<(), NoMemory>
+        ensures ok { OnOk result (self.new.instances ≡ self.old.instances ++ instance ∷ []) }
+        ensures err { OnErr result (self.new.instances ≡ self.old.instances) }
+        ensures told { self.new.told ≡ self.old.told }
+    {
+        match self.instances.push(instance) {
+            Ok(()) => Ok(()),
+            Err(_) => Err(NoMemory),
+        }
+    }
+
+    /// Drops the instances of a root. It takes no memory.
+    pub fn forget(&mut self, root: ObjNo)
+        ensures instances { self.new.instances ≡ instances_but root self.old.instances }
+        ensures told { self.new.told ≡ self.old.told }
+    {
+        self.instances.retain(|shape| shape.root != root);
+    }
+
+    /// Tells the types of an object, from its own on, in place of those that it had. Without memory nothing changes.
+    pub fn tell(&mut self, o: ObjNo, types: Vec<TypeRef>) -> Result<(), NoMemory>
+        ensures ok { OnOk result (TellsOf o types.items self.old self.new) }
+        ensures err { OnErr result (self.new ≡ self.old) }
+    {
+        match self.told.insert(o, types) {
+            Ok(_) => Ok(()),
+            Err(_) => Err(NoMemory),
+        }
+    }
+
+    /// The types of the object, from its own on; none where they weren't told.
+    pub fn types_told(&self, o: ObjNo) -> &[TypeRef]
+        ensures { result.now ≡ types_among self.now.told o }
+    {
+        match self.told.get(&o) {
+            Some(types) => types.as_slice(),
+            None => &[],
+        }
+    }
+
+    /// Drops the types of an object. It takes no memory.
+    pub fn forget_object(&mut self, o: ObjNo)
+        ensures { TellsOf o [] self.old self.new }
+    {
+        let _ = self.told.swap_remove(&o);
+    }
+
+    /// Whether the object is a Component.
+    pub fn is_component(&self, o: ObjNo) -> bool
+        ensures { result ≡ is_component self.now.told o }
+    {
+        has_component(self.types_told(o))
+    }
+
+    /// The name under which the cell was declared, as UTF-16 units, and never an alias's while its own is told before those;
+    /// none exactly where no instance has one, as for a hidden cell.
+    pub fn name_of(&self, c: CellNo) -> Option<&[u16]>
+        ensures { option_copied result ≡ name_of_cell c self.now.instances }
+    {
+        cell_name(self.instances.as_slice(), c)
+    }
+
+    /// Whether the cell is that of a delegate name.
+    pub fn is_delegate_name(&self, c: CellNo) -> bool
+        ensures { result ≡ has_delegate c self.now.instances }
+    {
+        has_delegate(self.instances.as_slice(), c)
+    }
+}

@@ -1,0 +1,112 @@
+//! Trees at their limits: bindings in a circle and in a row against the order of places, and objects that own one another.
+
+ghost use Rattle.std.specs.Prelude.{◌≡◌, ◌<◌};
+ghost use Rattle.object_tree.specs.Trees.{MayOwn};
+
+use crate::tests::{bound, cell, held, new_cell, number};
+use copy_rules::{Copies, NoNames};
+use live_tree::{AddFault, LiveTree};
+use object_tree::Tree;
+use qml_base::{ObjNo, Steps};
+use qml_types::PropKind;
+use std::alloc::Global;
+use std::marker::Brand;
+use std::process::Abort;
+use std::sync::ledger::{Blank, Ledger};
+use std::test::Fail;
+use tree_model::{Content, NewCell};
+
+const CELLS: u32 = 50_000;
+
+const OBJECTS: u32 = 100_000;
+
+/// Cells that copy the next one each; the last one is 7, or copies the first.
+fn row(alloc: Global, in_circle: bool) -> Result<Vec<NewCell>, Fail> {
+    let mut cells = Vec::new(alloc);
+    for place in 1..CELLS {
+        cells.push(new_cell(PropKind::Int, bound(0, place, 1)))?;
+    }
+    let last = if in_circle {
+        bound(0, 0, 1)
+    } else {
+        Content::Plain(number(7))
+    };
+    cells.push(new_cell(PropKind::Int, last))?;
+    Ok(cells)
+}
+
+#[tactic(auto, using(live_tree::proofs::LiveLemmas::knows_all))]
+fn rows_settle<L: Ledger>(rt: &impl Abort, alloc: Global, blank: Blank) -> Result<(), Fail>
+    requires name { blank.name ≡ L.name }
+    requires parts { blank.parts ≡ L.parts }
+    requires some { 0 < L.parts }
+{
+    let mut steps = Steps::<L>::new(blank);
+    let mut tree = LiveTree::new(alloc);
+    tree.add(None, None, row(alloc, false)?)?;
+    let told = tree.settle(alloc, &mut Copies, &NoNames, &mut steps)?;
+    assert_eq!(rt; told.cells.len(), CELLS as usize);
+    assert_eq!(rt; held(&tree, cell(1, 0)), Some(7));
+    let mut circle = LiveTree::new(alloc);
+    circle.add(None, None, row(alloc, true)?)?;
+    let told = circle.settle(alloc, &mut Copies, &NoNames, &mut steps)?;
+    assert_eq!(rt; told.cells.len(), 0);
+    assert_eq!(rt; told.reports.len(), CELLS as usize);
+    Ok(())
+}
+
+/// The object as an owner, if it may own one.
+fn owner(tree: &Tree, o: ObjNo) -> Option<ObjNo>
+    ensures { MayOwn tree.now.objects result }
+{
+    if tree.is_live(o) && !tree.is_condemned(o) {
+        Some(o)
+    } else {
+        None
+    }
+}
+
+/// 100,000 objects each of which owns the next.
+fn deep(alloc: Global) -> Result<Tree, Fail> {
+    let mut tree = Tree::new(alloc);
+    for i in 0..OBJECTS {
+        let owner = owner(&tree, ObjNo(i));
+        tree.add(owner, None)?;
+    }
+    Ok(tree)
+}
+
+fn remove(tree: &mut Tree, o: ObjNo) -> bool {
+    if !tree.is_condemned(o) {
+        return false;
+    }
+    tree.remove(o);
+    true
+}
+
+fn deep_trees_go(rt: &impl Abort, alloc: Global) -> Result<(), Fail> {
+    let mut tree = deep(alloc)?;
+    let full = tree.add(None, None).err();
+    assert_eq!(rt; full, Some(AddFault::Full { live: OBJECTS }));
+    assert_eq!(rt; tree.owner(ObjNo(OBJECTS)), Some(ObjNo(OBJECTS - 1)));
+    tree.condemn(ObjNo(OBJECTS));
+    assert_eq!(rt; tree.doomed(), [ObjNo(OBJECTS)].as_slice());
+    assert_eq!(rt; remove(&mut tree, ObjNo(OBJECTS)), true);
+    assert_eq!(rt; tree.add(None, None)?, ObjNo(OBJECTS + 1));
+    tree.condemn(ObjNo(1));
+    assert_eq!(rt; tree.doomed().len(), OBJECTS as usize - 1);
+    tree.remove_doomed();
+    assert_eq!(rt; tree.live(), 1);
+    assert_eq!(rt; tree.is_live(ObjNo(1)), false);
+    Ok(())
+}
+
+#[test]
+fn long_rows_settle(rt: HostRuntime) -> Result<(), Fail> {
+    rows_settle::<Brand>(&rt, rt.alloc(), Blank::new(1))
+}
+
+#[test]
+fn deep_trees_are_condemned(rt: HostRuntime) -> Result<(), Fail> {
+    deep_trees_go(&rt, rt.alloc())
+}

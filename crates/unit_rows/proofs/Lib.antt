@@ -1,0 +1,1 @@
+-- Definitions alone: there is nothing to prove.

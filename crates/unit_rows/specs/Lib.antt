@@ -1,0 +1,5 @@
+pub mod Rows
+pub mod Bodies
+pub mod Given
+pub mod NamesOfObjects
+pub mod UnitRows
