@@ -2,8 +2,8 @@
 //! view of cells and names, with the cells that it read, in order, and one step. The code is a machine whose frames mean
 //! what is still to be done (`specs/Meant.antt`), so that nothing recurses; its moves are `specs/Moves.antt` and, at statements,
 //! `specs/Statements.antt`, and a law says that each keeps what is heard in all. These forms aren't there yet, and answer want
-//! of memory where they are reached: a literal of fields, an assignment, `++` and `--`; the methods `split` of a text and
-//! `join` of a list. So does an evaluation of more than 1,000,000,000 moves.
+//! of memory where they are reached: a literal of fields, an assignment, `++` and `--`. So does an evaluation of more than
+//! 1,000,000,000 moves.
 #![tactic(auto)]
 
 mod beginning;
