@@ -1,6 +1,9 @@
 //! One parsed text and a small world, over which tests evaluate.
 
-ghost use Rattle.std.specs.Prelude.{◌≡◌};
+ghost use Rattle.std.specs.Prelude.{◌≡◌, map};
+ghost use Rattle.qml_syntax.specs.Opened.{root_of};
+ghost use Rattle.qml_syntax.specs.Places.{part_at};
+ghost use Rattle.js_subset.specs.Laid.{laid, name_of};
 ghost use Rattle.eval_tests.specs.Plain.{seen_at, found_cell, is_global, found_other, plain_names, code_of, table_at, text_in};
 
 use evaluation::{Seen, View};
@@ -17,6 +20,22 @@ pub struct Function {
     pub tree: Tree,
     pub parameters: Vec<usize>,
     pub mark: usize,
+}
+
+impl Function {
+    /// Where the names of its parameters stand.
+    fn names(&self) -> &[usize]
+        ensures { map (name_of (laid self.now.tree)) result.now ≡ map (name_of (laid self.now.tree)) self.now.parameters.items }
+    {
+        self.parameters.as_slice()
+    }
+}
+
+/// Where the whole text of a tree stands.
+fn root_place(tree: &Tree) -> usize
+    ensures { part_at tree.now result ≡ root_of (text_in tree.now) }
+{
+    tree.root()
 }
 
 /// A text, under number 0, and two functions.
@@ -59,11 +78,11 @@ impl Code for OneText {
 
     fn place(&self, text: ExprNo) -> usize {
         if text.at == 0 {
-            self.text.root()
+            root_place(&self.text)
         } else if text.at == 1 {
-            self.first.tree.root()
+            root_place(&self.first.tree)
         } else {
-            self.second.tree.root()
+            root_place(&self.second.tree)
         }
     }
 
@@ -71,9 +90,9 @@ impl Code for OneText {
         if function.at == 0 {
             &[]
         } else if function.at == 1 {
-            self.first.parameters.as_slice()
+            self.first.names()
         } else {
-            self.second.parameters.as_slice()
+            self.second.names()
         }
     }
 

@@ -1,5 +1,0 @@
-use Rattle.eval_tests.proofs.PlainLemmas.{stands_at_root}
-use Rattle.eval_tests.proofs.plain.OneTextCode.place.Goals as goal
-
-pub returns : goal.returns
-returns c = stands_at_root c.args.self.now.tree c.root.result c.root.ensures.listing c.root.ensures.last c.root.ensures.part
