@@ -1,0 +1,3 @@
+mod BasicLemmas
+mod PartLemmas
+mod MergeLemmas
