@@ -1,3 +1,4 @@
 pub mod Entries
 pub mod Walk
 pub mod WholePaths
+pub mod WrittenObjects

@@ -17,7 +17,7 @@ abbrev pub path_at : List (List Units) → Option ℕ → List Units
 path_at paths None = []
 path_at paths (Some k) = unwrap_or (slice_get paths k) []
 
-abbrev nowhere : Place
+abbrev pub nowhere : Place
 nowhere = record { line = 0; column = 0 }
 
 abbrev pub member_of : List Units → ℕ → Item → WrittenMember

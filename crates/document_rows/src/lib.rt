@@ -10,6 +10,8 @@ mod rows;
 mod tests;
 mod walk;
 
-pub use laws::members_have_whole_paths;
+pub use laws::{
+    members_have_whole_paths, objects_have_their_members, objects_have_their_types_and_roles,
+};
 pub use rows::{DocumentRows, MemberRow, ObjectRow};
 pub use walk::document_rows;
