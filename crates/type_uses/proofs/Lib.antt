@@ -1,3 +1,3 @@
 mod BasicLemmas
-mod PartLemmas
+pub mod PartLemmas
 mod MergeLemmas

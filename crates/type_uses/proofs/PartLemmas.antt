@@ -15,7 +15,7 @@ map_map : {A B C : Type 0} (f : B → C) (g : A → B) (xs : List A) → map (λ
 map_map f g [] = refl
 map_map f g (x ∷ xs) = ap (λ ys. f (g x) ∷ ys) (map_map f g xs)
 
-node_parts : (t : Table) (p : ℕ) → IsListing t → nodes_at t (places_of t p) ≡ map node_of (parts_of (part_at t p))
+pub node_parts : (t : Table) (p : ℕ) → IsListing t → nodes_at t (places_of t p) ≡ map node_of (parts_of (part_at t p))
 node_parts t p lists = map_map node_of (part_at t) (places_of t p) ∙ ap (map node_of) (parts_at_places t p lists)
 
 -- ---- what the parts tell

@@ -6,4 +6,5 @@
 mod names;
 mod uses;
 
+pub use names::{Name, copied, name_at};
 pub use uses::{TypeUse, type_uses};

@@ -23,6 +23,7 @@ pub struct Name {
     pub at: Place,
 }
 
+/// The same text.
 pub fn copied(alloc: Global, text: &Text) -> Result<Text, NoMemory>
     ensures { IfOk result (λ copy. copy ≡ text.now) }
 {
