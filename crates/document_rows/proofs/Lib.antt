@@ -2,5 +2,5 @@ pub mod WalkLemmas
 pub mod MatchLemmas
 pub mod StepLemmas
 pub mod PathLemmas
-mod OwnedLemmas
-mod RoleLemmas
+pub mod OwnedLemmas
+pub mod RoleLemmas

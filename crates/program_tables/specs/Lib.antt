@@ -1,0 +1,6 @@
+pub mod Putting
+pub mod BuiltIn
+pub mod Walk
+pub mod Building
+pub mod Stands
+pub mod RowsSay
