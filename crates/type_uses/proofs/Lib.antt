@@ -1,3 +1,3 @@
 mod BasicLemmas
 pub mod PartLemmas
-mod MergeLemmas
+pub mod MergeLemmas
