@@ -8,21 +8,23 @@ use Rattle.std.proofs.lemmas.List.{map-append}
 use Rattle.qml_base.specs.declared.numbers.Place.{Place}
 use Rattle.qml_syntax.specs.Places.{part_at}
 use Rattle.name_table.specs.Named.{under, put}
-use Rattle.qml_syntax.specs.Tree.{Units}
+use Rattle.qml_syntax.specs.Tree.{Units, Kind}
+use Rattle.qml_syntax.specs.declared.contextual.Adjective.{Adjective}
+use Rattle.qml_syntax.specs.declared.contextual.Adjective.TheVariants as adjective
 use Rattle.qml_syntax.specs.Nodes.{Table}
 use Rattle.qml_base.specs.declared.numbers.UnitNo.{UnitNo}
 use Rattle.std.proofs.lemmas.Bool.{false≢true}
 use Rattle.qml_types.specs.declared.kind.TypeRef.{TypeRef}
 use Rattle.qml_types.specs.declared.kind.TypeRef.TheVariants.{Document as OfDocument}
 use Rattle.program_names.specs.Names.{changed}
-use Rattle.program_names.specs.Written.{WrittenMember, an_id, an_alias, a_signal, a_function, Row}
-use Rattle.program_names.specs.Loaded.{Program, unit_at, type_of_object, kind_named}
-use Rattle.program_names.specs.Layers.{of_object, cells_of_layer, own_names, NameMeaning, a_cell, a_signal_of, a_function_of, an_alias_of, access_of, Named, meaning_in}
+use Rattle.program_names.specs.Written.{WrittenMember, WrittenValue, a_property, an_id, an_alias, a_signal, a_function, Row}
+use Rattle.program_names.specs.Loaded.{Program, unit_at, object_at, type_of_object, kind_named}
+use Rattle.program_names.specs.Layers.{DefaultProperty, of_object, cells_of_layer, own_names, NameMeaning, a_cell, a_signal_of, a_function_of, an_alias_of, access_of, Named, meaning_in}
 use Rattle.document_rows.specs.WholePaths.{path_at}
 use Rattle.document_rows.specs.WrittenObjects.{kept, members_of_object}
 use Rattle.document_members.specs.declared.member.Member.{Member}
 use Rattle.document_members.specs.declared.member.Member.TheVariants as m
-use Rattle.document_members.specs.Members.{names_of, written_in, added_by}
+use Rattle.document_members.specs.Members.{names_of, value_at, written_in, added_by}
 use Rattle.document_members.specs.Parts.{kind_in}
 use Rattle.document_members.specs.Parts as members
 use Rattle.program_tables.specs.declared.names.Declared.{Declared}
@@ -31,8 +33,8 @@ use Rattle.program_tables.specs.declared.names.ObjectNames.{ObjectNames}
 use Rattle.program_tables.specs.declared.names.UnitNames.{UnitNames}
 use Rattle.program_tables.specs.declared.building.UnitRow.{UnitRow}
 use Rattle.program_tables.specs.Walk.{object_in, meaning_of}
-use Rattle.program_tables.specs.Stands.{meant, member_at, parameters_in, function_in, target_in, is_there, Stands}
-use Rattle.program_tables.specs.Building.{nothing_declared, with_name, declared, is_group, is_inside, changed_at, row_added, rows_added}
+use Rattle.program_tables.specs.Stands.{meant, member_at, parameters_in, function_in, target_in, is_there, default_in, last_default, MeansDefault, Stands}
+use Rattle.program_tables.specs.Building.{nothing_declared, is_default, with_name, declared, is_group, is_inside, changed_at, row_added, rows_added}
 use Rattle.program_tables.specs.RowsSay.{SaysKind, SaysRow, RowsSay, UnitSays}
 use Rattle.program_tables.proofs.NameLemmas.{in_both, under_put, or_assoc, eq_either_way}
 use Rattle.program_tables.proofs.MeaningLemmas.{names_of_member, cells_of_member, names_of_members}
@@ -141,32 +143,55 @@ put_means p u o names n x at what name e =
 record Adds (p : Program) (u o : ℕ) (x y : ObjectNames) (ms : List WrittenMember) : Type 0 where
   names : (name : Units) → view p u o (under y.names name) ≡ option_or (view p u o (under x.names name)) (meaning_in (names_of_members p u o x.cells ms) name)
   cells : y.cells ≡ x.cells + cells_of_members ms
+  default : (before : Option DefaultProperty) → MeansDefault p u x.default before → MeansDefault p u y.default (option_or (last_default ms) before)
 
 no_more_cells : (a : ℕ) → a ≡ a + 0
 no_more_cells a = omega arith
 
 nothing_added : (p : Program) (u o : ℕ) (x : ObjectNames) → Adds p u o x x []
-nothing_added p u o x = record { names = λ name. none_more (view p u o (under x.names name)); cells = no_more_cells x.cells }
+nothing_added p u o x = record { names = λ name. none_more (view p u o (under x.names name)); cells = no_more_cells x.cells; default = λ before h. h }
 
 -- a member that declares nothing
-adds_no_name : (p : Program) (u o : ℕ) (x : ObjectNames) (w : WrittenMember) → ((place : ℕ) → names_of_member p u o place w ≡ []) → cells_of_member w ≡ 0 → Adds p u o x x (w ∷ [])
-adds_no_name p u o x w n c = record {
+adds_no_name : (p : Program) (u o : ℕ) (x : ObjectNames) (w : WrittenMember) → ((place : ℕ) → names_of_member p u o place w ≡ []) → cells_of_member w ≡ 0 → Path (Option DefaultProperty) (default_in (Some w)) None → Adds p u o x x (w ∷ [])
+adds_no_name p u o x w n c d = record {
   names = λ name. none_more (view p u o (under x.names name)) ∙ ap (λ ns. option_or (view p u o (under x.names name)) (meaning_in (ns ++ []) name)) (sym (n x.cells));
   cells = no_more_cells x.cells ∙ ap (λ k. x.cells + (k + 0)) (sym c);
+  default = λ before h. subst (λ v. MeansDefault p u x.default (option_or v before)) (sym d) h;
 }
 
+one_name : (p : Program) (u o : ℕ) (x : ObjectNames) (n : Units) (y : Declared) (at : Place) (what : NameMeaning) (w : WrittenMember) → meant p (meaning_of u o y) ≡ what
+    → ((place : ℕ) → names_of_member p u o place w ≡ named n at what ∷ [])
+    → (name : Units) → view p u o (under (put x.names n y) name) ≡ option_or (view p u o (under x.names name)) (meaning_in (names_of_members p u o x.cells (w ∷ [])) name)
+one_name p u o x n y at what w e h name =
+    put_means p u o x.names n y at what name e ∙ ap (λ ns. option_or (view p u o (under x.names name)) (meaning_in (ns ++ []) name)) (sym (h x.cells))
+
 adds_one_name : (p : Program) (u o : ℕ) (x : ObjectNames) (n : Units) (y : Declared) (at : Place) (what : NameMeaning) (w : WrittenMember) → meant p (meaning_of u o y) ≡ what
-    → ((place : ℕ) → names_of_member p u o place w ≡ named n at what ∷ []) → cells_of_member w ≡ 0 → Adds p u o x (with_name n y x) (w ∷ [])
-adds_one_name p u o x n y at what w e h c = record {
-  names = λ name. put_means p u o x.names n y at what name e ∙ ap (λ ns. option_or (view p u o (under x.names name)) (meaning_in (ns ++ []) name)) (sym (h x.cells));
+    → ((place : ℕ) → names_of_member p u o place w ≡ named n at what ∷ []) → cells_of_member w ≡ 0 → Path (Option DefaultProperty) (default_in (Some w)) None
+    → Adds p u o x (with_name n y x) (w ∷ [])
+adds_one_name p u o x n y at what w e h c d = record {
+  names = one_name p u o x n y at what w e h;
   cells = no_more_cells x.cells ∙ ap (λ k. x.cells + (k + 0)) (sym c);
+  default = λ before g. subst (λ v. MeansDefault p u x.default (option_or v before)) (sym d) g;
 }
+
+alias_default : (p : Program) (u i : ℕ) (q : Place) (b : Bool) (n : Units) (at : Place) (target : List Units) (r : Place) (old : Option ℕ) (before : Option DefaultProperty)
+    → member_at p u i ≡ Some (an_alias q b n at target r) → MeansDefault p u old before
+    → MeansDefault p u (if b then Some i else old) (option_or (default_in (Some (an_alias q b n at target r))) before)
+alias_default p u i q true n at target r old before e h = ap default_in e
+alias_default p u i q false n at target r old before e h = h
+
+property_default : (p : Program) (u i : ℕ) (q : Place) (a : Adjective) (k : Kind) (n : Units) (at : Place) (v : Option WrittenValue) (old : Option ℕ) (before : Option DefaultProperty)
+    → member_at p u i ≡ Some (a_property q a k n at v) → MeansDefault p u old before
+    → MeansDefault p u (if is_default a then Some i else old) (option_or (default_in (Some (a_property q a k n at v))) before)
+property_default p u i q adjective.Default k n at v old before e h = ap default_in e
+property_default p u i q _ k n at v old before e h = h
 
 -- inside a group nothing is declared
 inside_group : (p : Program) (u o place : ℕ) (t : Table) (n : Units) (ns : List Units) (first : ℕ) (x : Member)
-    → (names_of_member p u o place (written_in t (n ∷ ns) first x) ≡ []) × (cells_of_member (written_in t (n ∷ ns) first x) ≡ 0)
-inside_group p u o place t n ns first (m.Id w name at) = (refl, refl)
-inside_group p u o place t n ns first _ = (refl, refl)
+    → (names_of_member p u o place (written_in t (n ∷ ns) first x) ≡ []) × (cells_of_member (written_in t (n ∷ ns) first x) ≡ 0) ×
+    Path (Option DefaultProperty) (default_in (Some (written_in t (n ∷ ns) first x))) None
+inside_group p u o place t n ns first (m.Id w name at) = (refl, refl, refl)
+inside_group p u o place t n ns first _ = (refl, refl, refl)
 
 -- the member of a row that isn't in a group
 outside : (p : Program) (u o : ℕ) (t : Table) (i : ℕ) (r : UnitRow) (x : ObjectNames) (y : Member) → SaysKind p u t y r.kind
@@ -181,20 +206,22 @@ outside p u o t i r x (m.Property q a k n at v) kind there = record {
       ap (λ z. option_or (view p u o (under x.names name)) z)
       (sym (in_both (named n at (a_cell x.cells (kind_named p u (kind_in (part_at t k))) (access_of a)) ∷ []) (named (changed n) at (a_signal_of []) ∷ []) name));
   cells = refl;
+  default = λ before h. property_default p u i q a (kind_in (part_at t k)) n at (option_map (value_at t r.row.first) v) x.default before there h;
 }
 outside p u o t i r x (m.Alias q b n at target) kind there = record {
-  names = (adds_one_name p u o x n (d.Alias i) at (an_alias_of u o (names_of target)) (an_alias q b n at (names_of target) target.at) (ap (λ w. an_alias_of u o (target_in w)) there) (λ place. refl) refl).names;
+  names = one_name p u o x n (d.Alias i) at (an_alias_of u o (names_of target)) (an_alias q b n at (names_of target) target.at) (ap (λ w. an_alias_of u o (target_in w)) there) (λ place. refl);
   cells = no_more_cells x.cells;
+  default = λ before h. alias_default p u i q b n at (names_of target) target.at x.default before there h;
 }
 outside p u o t i r x (m.Signal q n at names) kind there =
-    adds_one_name p u o x n (d.Signal i) at (a_signal_of names.items) (a_signal q n at names.items) (ap (λ w. a_signal_of (parameters_in w)) there) (λ place. refl) refl
+    adds_one_name p u o x n (d.Signal i) at (a_signal_of names.items) (a_signal q n at names.items) (ap (λ w. a_signal_of (parameters_in w)) there) (λ place. refl) refl refl
 outside p u o t i r x (m.Method q f n at) kind there =
     adds_one_name p u o x n (d.Function i) at (a_function_of u o (members.function_in (part_at t f))) (a_function q (members.function_in (part_at t f)) n at)
-    (ap (λ w. a_function_of u o (function_in w)) there) (λ place. refl) refl
-outside p u o t i r x (m.Id w n at) kind there = adds_no_name p u o x (an_id w n at) (λ place. refl) refl
-outside p u o t i r x (m.Given path value) kind there = adds_no_name p u o x (written_in t [] r.row.first (m.Given path value)) (λ place. refl) refl
-outside p u o t i r x (m.Group path) kind there = adds_no_name p u o x (written_in t [] r.row.first (m.Group path)) (λ place. refl) refl
-outside p u o t i r x (m.Child c) kind there = adds_no_name p u o x (written_in t [] r.row.first (m.Child c)) (λ place. refl) refl
+    (ap (λ w. a_function_of u o (function_in w)) there) (λ place. refl) refl refl
+outside p u o t i r x (m.Id w n at) kind there = adds_no_name p u o x (an_id w n at) (λ place. refl) refl refl
+outside p u o t i r x (m.Given path value) kind there = adds_no_name p u o x (written_in t [] r.row.first (m.Given path value)) (λ place. refl) refl refl
+outside p u o t i r x (m.Group path) kind there = adds_no_name p u o x (written_in t [] r.row.first (m.Group path)) (λ place. refl) refl refl
+outside p u o t i r x (m.Child c) kind there = adds_no_name p u o x (written_in t [] r.row.first (m.Child c)) (λ place. refl) refl refl
 
 of_member : (p : Program) (u o : ℕ) (t : Table) (i : ℕ) (before : List Units) (r : UnitRow) (x : ObjectNames) → SaysKind p u t r.member r.kind
     → member_at p u i ≡ Some (written_in t before r.row.first r.member)
@@ -202,6 +229,7 @@ of_member : (p : Program) (u o : ℕ) (t : Table) (i : ℕ) (before : List Units
 of_member p u o t i [] r x kind there = outside p u o t i r x r.member kind there
 of_member p u o t i (n ∷ ns) r x kind there =
     adds_no_name p u o x (written_in t (n ∷ ns) r.row.first r.member) (λ place. (inside_group p u o place t n ns r.row.first r.member).0) (inside_group p u o 0 t n ns r.row.first r.member).1
+    (inside_group p u o 0 t n ns r.row.first r.member).2
 
 choose : (b own : Bool) (f : ObjectNames → ObjectNames) (x : ObjectNames) → own ≡ true → (if b then x else f x) ≡ changes_object b own f x
 choose true own f x e = refl
@@ -250,6 +278,14 @@ names_of_two p u o place (x ∷ a) b =
     (names_of_two p u o (place + cells_of_member x) a b ∙ ap (λ k. names_of_members p u o (place + cells_of_member x) a ++ names_of_members p u o k b) (sums place (cells_of_member x) (cells_of_members a))) ∙
     sym (assoc (names_of_member p u o place x) (names_of_members p u o (place + cells_of_member x) a) (names_of_members p u o (place + (cells_of_member x + cells_of_members a)) b))
 
+defaults_of_two : (a b : List WrittenMember) → last_default (a ++ b) ≡ option_or (last_default b) (last_default a)
+defaults_of_two [] b = none_after (last_default b)
+  where
+    none_after : (x : Option DefaultProperty) → x ≡ option_or x None
+    none_after None = refl
+    none_after (Some x) = refl
+defaults_of_two (x ∷ a) b = ap (λ v. option_or v (default_in (Some x))) (defaults_of_two a b) ∙ or_assoc (last_default b) (last_default a) (default_in (Some x))
+
 then_adds : (p : Program) (u o : ℕ) (x y z : ObjectNames) (a b : List WrittenMember) → Adds p u o x y a → Adds p u o y z b → Adds p u o x z (a ++ b)
 then_adds p u o x y z a b h g = record {
   names = λ name.
@@ -260,6 +296,10 @@ then_adds p u o x y z a b h g = record {
       sym (in_both (names_of_members p u o x.cells a) (names_of_members p u o (x.cells + cells_of_members a) b) name) ∙
       ap (λ ns. meaning_in ns name) (sym (names_of_two p u o x.cells a b)));
   cells = g.cells ∙ ap (λ k. k + cells_of_members b) h.cells ∙ sums x.cells (cells_of_members a) (cells_of_members b) ∙ ap (λ k. x.cells + k) (sym (cells_of_two a b));
+  default = λ before e.
+      subst (λ v. MeansDefault p u z.default v)
+      (sym (or_assoc (last_default b) (last_default a) before) ∙ ap (λ v. option_or v before) (sym (defaults_of_two a b)))
+      (g.default (option_or (last_default a) before) (h.default before e));
 }
 
 -- the rows of a document from one on
@@ -316,15 +356,21 @@ object_says p u o unit x s e =
     got_base s.bases o (object_added 0 [] s.rows o) x
     (sym (added_there 0 [] s.rows (map nothing_declared s.bases) o) ∙ ap (λ xs. slice_get xs o) (sym s.built) ∙ e)
 
+none_behind : (v : Option DefaultProperty) → option_or v None ≡ v
+none_behind None = refl
+none_behind (Some v) = refl
+
 pub object_stands : (p : Program) (u o : ℕ) (unit : UnitNames) (x : ObjectNames) → UnitSays p u unit → slice_get unit.objects.items o ≡ Some x
     → (x.base ≡ type_of_object p u o) × (x.cells ≡ cells_of_layer p (of_object u o)) ×
-    ((name : Units) → view p u o (under x.names name) ≡ meaning_in (own_names p u o) name)
+    ((name : Units) → view p u o (under x.names name) ≡ meaning_in (own_names p u o) name) × MeansDefault p u x.default (last_default (object_at p u o).members)
 object_stands p u o unit x s e =
     let y = object_says p u o unit x s e in
     let all = all_rows p u o s.tree 0 [] [] s.rows (unit_at p u).rows (nothing_declared y.0) s.says refl (λ k. ap (slice_get (unit_at p u).rows) (sym (nothing_before k))) in (
       ap (λ z. z.base) y.2 ∙ base_kept 0 [] s.rows o (nothing_declared y.0) ∙ s.types o y.0 y.1,
       ap (λ z. z.cells) y.2 ∙ all.cells ∙ sym (nothing_before (cells_of_members (members_of_object o (unit_at p u).rows))) ∙ ap cells_of_members (sym (s.members o)),
-      λ name. ap (λ z. view p u o (under z.names name)) y.2 ∙ all.names name ∙ ap (λ ms. meaning_in (names_of_members p u o 0 ms) name) (sym (s.members o)),
+      (λ name. ap (λ z. view p u o (under z.names name)) y.2 ∙ all.names name ∙ ap (λ ms. meaning_in (names_of_members p u o 0 ms) name) (sym (s.members o))),
+      subst (λ v. MeansDefault p u x.default v) (none_behind (last_default (members_of_object o (unit_at p u).rows)) ∙ ap last_default (sym (s.members o)))
+          (subst (λ (v : ObjectNames). MeansDefault p u v.default (option_or (last_default (members_of_object o (unit_at p u).rows)) None)) (sym y.2) (all.default None tt)),
     )
 
 -- an object of the tables is one of its document
@@ -343,5 +389,6 @@ all_stand p us l says rooted = record {
   bases = λ u o x i. let y = of_its_unit us u o x i in (object_stands p u o y.0 x (says u y.0 y.1) y.2).0;
   cells = λ u o x i. let y = of_its_unit us u o x i in (object_stands p u o y.0 x (says u y.0 y.1) y.2).1;
   names = λ u o x i name. let y = of_its_unit us u o x i in (object_stands p u o y.0 x (says u y.0 y.1) y.2).2 name;
+  defaults = λ u o x i. let y = of_its_unit us u o x i in (object_stands p u o y.0 x (says u y.0 y.1) y.2).3;
   rooted = rooted;
 }

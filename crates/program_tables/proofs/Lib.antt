@@ -5,3 +5,5 @@ pub mod NameLemmas
 pub mod MeaningLemmas
 mod DeclaredLemmas
 mod TreeLemmas
+pub mod TypeLemmas
+pub mod DefaultLemmas

@@ -60,11 +60,11 @@ abbrev names_from : Program → ℕ → List Layer → List Named
 names_from p place [] = []
 names_from p place (layer ∷ rest) = names_of_layer p place layer ++ names_from p (place + cells_of_layer p layer) rest
 
-abbrev layers_of_type : (ℕ → List Layer) → TypeRef → List Layer
+abbrev pub layers_of_type : (ℕ → List Layer) → TypeRef → List Layer
 layers_of_type document (Builtin t) = map of_type (lineage t)
 layers_of_type document (OfDocument u) = document u.0
 
-abbrev below : ℕ → Program → ℕ → ℕ → List Layer
+abbrev pub below : ℕ → Program → ℕ → ℕ → List Layer
 below zero p u o = []
 below (suc f) p u o = layers_of_type (λ e. below f p e 0) (type_of_object p u o) ++ of_object u o ∷ []
 
@@ -190,7 +190,7 @@ Deeper p us f =
     ((e : ℕ) → is_there us e 0 ≡ true → (name : Units) → option_map (meant p) (found_at f us e 0 name) ≡ meaning_in (names_from p 0 (below f p e 0)) name) ×
     ((e : ℕ) → is_there us e 0 ≡ true → cells_at f us e 0 ≡ cells_from p (below f p e 0))
 
-abbrev Rooted : List UnitNames → TypeRef → Type 0
+abbrev pub Rooted : List UnitNames → TypeRef → Type 0
 Rooted us t = (e : UnitNo) → t ≡ OfDocument e → is_there us e.0 0 ≡ true
 
 type_cells : (p : Program) (us : List UnitNames) (f : ℕ) → Deeper p us f → (t : TypeRef) → Rooted us t → cells_by_type (λ e. cells_at f us e 0) t ≡ cells_from p (layers_of_type (λ e. below f p e 0) t)
@@ -203,7 +203,7 @@ type_means p us f h (Builtin t) r name =
     built_in_meant p (built_in t name) ∙ built_in_means t name ∙ ap (λ ns. meaning_in ns name) (sym (names_of_types p 0 (lineage t)))
 type_means p us f h (OfDocument u) r name = h.0 u.0 (r u refl) name
 
-rooted_type : (p : Program) (us : List UnitNames) → Stands p us → (u o : ℕ) (x : ObjectNames) → object_in us u o ≡ Some x → Rooted us (type_of_object p u o)
+pub rooted_type : (p : Program) (us : List UnitNames) → Stands p us → (u o : ℕ) (x : ObjectNames) → object_in us u o ≡ Some x → Rooted us (type_of_object p u o)
 rooted_type p us s u o x i e g = s.rooted u o x e i (s.bases u o x i ∙ g)
 
 cells_there : (p : Program) (us : List UnitNames) → Stands p us → (f : ℕ) → Deeper p us f → (u o : ℕ) (x : ObjectNames) → object_in us u o ≡ Some x → cells_at (suc f) us u o ≡ cells_from p (below (suc f) p u o)
@@ -234,7 +234,7 @@ means_there p us s f h u o x i name =
     ap (λ ns. meaning_in ns name) (sym (names_of_two p 0 lower (of_object u o ∷ [])))
 
 -- what is there
-there : (us : List UnitNames) (u o : ℕ) → is_there us u o ≡ true → (x : ObjectNames) × (object_in us u o ≡ Some x)
+pub there : (us : List UnitNames) (u o : ℕ) → is_there us u o ≡ true → (x : ObjectNames) × (object_in us u o ≡ Some x)
 there us u o h = cases (object_in us u o) refl h
   where
     cases : (y : Option ObjectNames) → object_in us u o ≡ y → is_some y ≡ true → (x : ObjectNames) × (object_in us u o ≡ Some x)

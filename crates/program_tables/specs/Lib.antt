@@ -4,3 +4,5 @@ pub mod Walk
 pub mod Building
 pub mod Stands
 pub mod RowsSay
+pub mod Types
+pub mod Defaults

@@ -94,7 +94,7 @@ impl BuiltInNames {
 }
 
 /// The place of a type among all.
-fn index_of(type_no: TypeNo) -> usize
+pub(crate) fn index_of(type_no: TypeNo) -> usize
     ensures { result ≡ s.index_of type_no }
 {
     match type_no {

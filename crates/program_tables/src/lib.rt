@@ -5,15 +5,18 @@
 
 mod building;
 mod built_in;
+mod defaults;
 mod laws;
 mod names;
 #[cfg(test)]
 mod tests;
+mod types;
 mod walking;
 
 pub use building::{UnitRow, unit_names};
 pub use built_in::{BuiltInName, BuiltInNames};
 pub use laws::{
-    names_mean_as_in_the_program, rows_of_a_tree_say_its_document, tables_of_rows_stand,
+    defaults_are_as_in_the_program, names_mean_as_in_the_program, rows_of_a_tree_say_its_document,
+    tables_of_rows_stand, types_are_as_in_the_program,
 };
-pub use names::{Declared, Meaning, Names, ObjectNames, UnitNames};
+pub use names::{Declared, DefaultPlace, Meaning, Names, ObjectNames, UnitNames};

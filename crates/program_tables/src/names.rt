@@ -2,7 +2,7 @@
 
 use crate::built_in::{BuiltInName, BuiltInNames};
 use name_table::NameTable;
-use qml_types::{Access, PropKind, TypeRef};
+use qml_types::{Access, DefaultMember, PropKind, TypeNo, TypeRef};
 
 /// What a name that an object declares means. A row is that of a member in the object's document.
 #[derive(Clone, Copy, Debug)]
@@ -51,6 +51,21 @@ pub enum Meaning {
         document: usize,
         object: usize,
         row: usize,
+    },
+}
+
+/// Where child objects of an object go.
+#[derive(Clone, Copy, Debug)]
+pub enum DefaultPlace {
+    /// To the property that a row of a document declares as default.
+    Declared {
+        document: usize,
+        row: usize,
+    },
+    /// Where a built-in type says.
+    BuiltIn {
+        type_no: TypeNo,
+        member: DefaultMember,
     },
 }
 

@@ -50,7 +50,7 @@ impl Names {
 }
 
 /// What the object of a number declares.
-fn object_at(units: &[UnitNames], document: usize, object: usize) -> Option<&ObjectNames>
+pub(crate) fn object_at(units: &[UnitNames], document: usize, object: usize) -> Option<&ObjectNames>
     ensures { option_copied result ≡ s.object_in units.now document object }
 {
     match units.get(document) {
