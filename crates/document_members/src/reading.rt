@@ -94,7 +94,8 @@ fn read_property(
     adjective: Adjective,
     parts: &mut Vec<usize>,
 ) -> Result<Member, NoMemory>
-    ensures { IfOk result (λ member. Says tree.now (made (f.Property place adjective) (items tree.now parts.old.items)) member) }
+    ensures { IfOk result (λ member.
+        Says tree.now (made (f.Property place adjective) (items tree.now parts.old.items)) member) }
 {
     let value = pop_place(tree, parts);
     let name = pop_name(alloc, tree, parts)?;
@@ -117,7 +118,8 @@ fn read_bare(
     adjective: Adjective,
     parts: &mut Vec<usize>,
 ) -> Result<Member, NoMemory>
-    ensures { IfOk result (λ member. Says tree.now (made (f.Bare place adjective) (items tree.now parts.old.items)) member) }
+    ensures { IfOk result (λ member.
+        Says tree.now (made (f.Bare place adjective) (items tree.now parts.old.items)) member) }
 {
     let name = pop_name(alloc, tree, parts)?;
     let kind = pop_place(tree, parts);
@@ -139,7 +141,8 @@ fn read_alias(
     default: bool,
     parts: &mut Vec<usize>,
 ) -> Result<Member, NoMemory>
-    ensures { IfOk result (λ member. Says tree.now (made (f.Alias place default) (items tree.now parts.old.items)) member) }
+    ensures { IfOk result (λ member.
+        Says tree.now (made (f.Alias place default) (items tree.now parts.old.items)) member) }
 {
     let target = pop_path(alloc, tree, parts)?;
     let name = pop_name(alloc, tree, parts)?;
@@ -177,7 +180,8 @@ fn read_signal_with(
     place: Place,
     parts: &mut Vec<usize>,
 ) -> Result<Member, NoMemory>
-    ensures { IfOk result (λ member. Says tree.now (made (f.SignalWith place) (items tree.now parts.old.items)) member) }
+    ensures { IfOk result (λ member.
+        Says tree.now (made (f.SignalWith place) (items tree.now parts.old.items)) member) }
 {
     let parameters = pop_parameters(alloc, tree, parts)?;
     let name = pop_name(alloc, tree, parts)?;

@@ -15,11 +15,13 @@ pub fn members_have_whole_paths()
 
 /// The members of the object of a number are those of the rows with that number, in their order.
 pub fn objects_have_their_members()
-    ensures { (root : AnObject) (o : ℕ) → members_at (objects_of as_root 0 root) o ≡ members_of_object o (rows_of 0 root) }
+    ensures { (root : AnObject) (o : ℕ) →
+        members_at (objects_of as_root 0 root) o ≡ members_of_object o (rows_of 0 root) }
 {}
 
 /// The rows of objects, with all members' rows, say the type of each object and what it is written as.
 pub fn objects_have_their_types_and_roles()
     ensures { (root : AnObject) →
-        map (typed_by (placed_behind [] (members_with 0 0 root))) (objects_with None 0 root) ≡ map typed (objects_of as_root 0 root) }
+        map (typed_by (placed_behind [] (members_with 0 0 root))) (objects_with None 0 root) ≡
+        map typed (objects_of as_root 0 root) }
 {}

@@ -16,7 +16,8 @@ default_by_type deeper (OfDocument e) = deeper e.0
 
 abbrev pub default_of_object : (ℕ → Option DefaultPlace) → ℕ → Option ObjectNames → Option DefaultPlace
 default_of_object deeper u None = None
-default_of_object deeper u (Some x) = option_or (option_map (place.Declared u) x.default) (default_by_type deeper x.base)
+default_of_object deeper u (Some x) =
+    option_or (option_map (place.Declared u) x.default) (default_by_type deeper x.base)
 
 -- that of the highest of at most so many layers of documents
 abbrev pub default_at : ℕ → List UnitNames → ℕ → ℕ → Option DefaultPlace

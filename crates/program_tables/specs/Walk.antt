@@ -34,10 +34,12 @@ raised n other = other
 
 -- the meaning in the built-in type below, else the one so far
 abbrev pub with_type : TypeNo → Units → Option Meaning → Option Meaning
-with_type t name found = option_or (option_map m.BuiltIn (built_in t name)) (option_map (raised (length (cells_of t))) found)
+with_type t name found =
+    option_or (option_map m.BuiltIn (built_in t name)) (option_map (raised (length (cells_of t))) found)
 
 abbrev pub with_own : ObjectNames → ℕ → ℕ → Units → Option Meaning → Option Meaning
-with_own x u o name found = option_or (option_map (meaning_of u o) (under x.names name)) (option_map (raised x.cells) found)
+with_own x u o name found =
+    option_or (option_map (meaning_of u o) (under x.names name)) (option_map (raised x.cells) found)
 
 -- ---- how many cells an object has, of at most so many layers of documents
 

@@ -101,7 +101,8 @@ fn declare_at(
     row: &UnitRow,
     objects: &mut Vec<ObjectNames>,
 ) -> Result<(), NoMemory>
-    ensures { OnOk result (objects.new.items ≡ s.changed_at objects.old.items row.now.row.object (s.declared number row.now.kind row.now.member)) }
+    ensures { OnOk result (objects.new.items ≡
+        s.changed_at objects.old.items row.now.row.object (s.declared number row.now.kind row.now.member)) }
 {
     let at = row.row.object;
     if at < objects.len() {

@@ -11,8 +11,8 @@ use crate::walking::object_at;
 use qml_types::{TypeNo, TypeRef, default_member};
 
 impl Names {
-    /// Where objects go that are written in an object and for no property: of several declared defaults the last counts, that
-    /// of the object's own text included, and the type's own below them.
+    /// Where objects go that are written in an object and for no property: of several declared defaults the last counts,
+    /// that of the object's own text included; else it is where the built-in type says (Qt 5.15, "Default Properties").
     #[tactic(auto, using(crate::proofs::DefaultLemmas::goes_on, crate::proofs::DefaultLemmas::declares_it, crate::proofs::DefaultLemmas::ends_below, crate::proofs::DefaultLemmas::ends_without, crate::proofs::DefaultLemmas::ends_at_last))]
     pub fn default_property(&self, document: usize, object: usize) -> Option<DefaultPlace>
         ensures { result ≡ s.default_at (length self.now.units.items + 1) self.now.units.items document object }

@@ -23,11 +23,12 @@ ghost use Rattle.program_tables.specs.Types.{any_of, base_in};
 ghost use Rattle.program_tables.specs.Defaults.{default_at};
 ghost use Rattle.program_tables.specs.RowsSay.{UnitSays, SaysKinds, row_of, member_of_row};
 
-/// In the tables of a program a name is found, for each object, exactly where the object has it, and what is found is what the
-/// name means.
+/// In the tables of a program a name is found, for each object, exactly where the object has it, and what is found is what
+/// the name means.
 pub fn names_mean_as_in_the_program()
     ensures { (p : Program) (units : List a.UnitNames) → Stands p units → (d o : ℕ) → is_there units d o ≡ true →
-        (name : List ℕ) → option_map (meant p) (found_at (length units + 1) units d o name) ≡ meaning_in_program p d o name }
+        (name : List ℕ) →
+        option_map (meant p) (found_at (length units + 1) units d o name) ≡ meaning_in_program p d o name }
 {}
 
 /// Tables of all documents, each built from rows that say its members and of the types of its objects, are those of the
@@ -39,8 +40,8 @@ pub fn tables_of_rows_stand()
         object_in units d o ≡ Some x → x.base ≡ OfDocument e → is_there units e.0 0 ≡ true) → Stands p units }
 {}
 
-/// Rows that are read from the tree of a document, with the kinds that the document names, say the members of the document; so a
-/// table that is built from them and of the types of its objects is one of the document.
+/// Rows that are read from the tree of a document, with the kinds that the document names, say the members of the document;
+/// so a table that is built from them and of the types of its objects is one of the document.
 pub fn rows_of_a_tree_say_its_document()
     ensures { (p : Program) (d : ℕ) (file : File) (t : Table) (objects : List o.ObjectRow) (rows : List r.UnitRow)
         (bases : List TypeRef) (unit : a.UnitNames) → (all : AreRows t objects (map row_of rows)) →
@@ -59,5 +60,6 @@ pub fn types_are_as_in_the_program()
 /// The default property of an object of the tables is the one that it has in the program.
 pub fn defaults_are_as_in_the_program()
     ensures { (p : Program) (units : List a.UnitNames) → Stands p units → (d o : ℕ) → is_there units d o ≡ true →
-        unwrap_or (option_map (default_meant p) (default_at (length units + 1) units d o)) no_default ≡ default_of p d o }
+        unwrap_or (option_map (default_meant p) (default_at (length units + 1) units d o)) no_default ≡
+        default_of p d o }
 {}

@@ -17,7 +17,8 @@ impl Names {
     /// document of one.
     #[tactic(auto, using(crate::proofs::TypeLemmas::goes_to_base, crate::proofs::TypeLemmas::is_it, crate::proofs::TypeLemmas::ends_built_in, crate::proofs::TypeLemmas::ends_unsettled))]
     pub fn is_a(&self, document: usize, object: usize, wanted: TypeRef) -> bool
-        ensures { result ≡ s.any_of (length self.now.units.items + 1) self.now.units.items wanted (s.base_in self.now.units.items document object) }
+        ensures { result ≡ s.any_of (length self.now.units.items + 1) self.now.units.items wanted
+            (s.base_in self.now.units.items document object) }
     {
         let mut base = base_at(&self.units, document, object);
         let mut left = self.units.len() + 1;

@@ -12,8 +12,9 @@ use qml_text::Text;
 use qml_types::{TypeNo, TypeRef, cell_count};
 
 impl Names {
-    /// What a name means for the object of a number in the document of a number, if the object has it: of several meanings
-    /// that of the lowest layer. Goes through the types of the object, with one look-up in each.
+    /// What a name means for the object of a number in the document of a number, if the object has it (Qt 5.15, "QML Object
+    /// Attributes"): of several meanings that of the lowest layer. Goes through the types of the object, with one look-up in
+    /// each.
     #[tactic(auto, using(crate::proofs::WalkLemmas::nothing_yet, crate::proofs::WalkLemmas::goes_down, crate::proofs::WalkLemmas::ends_below, crate::proofs::WalkLemmas::ends_without, crate::proofs::WalkLemmas::ends_at_last))]
     pub fn meaning(
         &self,
@@ -21,7 +22,8 @@ impl Names {
         object: usize,
         name: &Text,
     ) -> Result<Option<Meaning>, NoMemory>
-        ensures { IfOk result (λ m. m ≡ s.found_at (length self.now.units.items + 1) self.now.units.items document object name.now) }
+        ensures { IfOk result (λ m.
+            m ≡ s.found_at (length self.now.units.items + 1) self.now.units.items document object name.now) }
     {
         let mut document = document;
         let mut object = object;
