@@ -1,7 +1,11 @@
 //! The names of one live instance of a component.
 
+ghost use Rattle.std.specs.Prelude.{◌≡◌, ◌++◌, ◌∷◌, [], OnOk, OnErr};
+
 use crate::named::Named;
-use qml_base::{CellNo, Found, ObjNo, UnitNo};
+use qml_base::{CellNo, Found, NoMemory, ObjNo, UnitNo};
+use std::alloc::Global;
+use std::marker::Model;
 
 /// The names of one object as one document sees them, in the order of the cells' places, those of its aliases after all
 /// others.
@@ -9,6 +13,50 @@ use qml_base::{CellNo, Found, ObjNo, UnitNo};
 pub struct Entry {
     pub object: ObjNo,
     pub names: Named<Found>,
+}
+
+/// The objects of an instance with their names. Contracts see them as the list of the entries.
+#[derive(Drop)]
+pub struct Members {
+    entries: Vec<Entry>,
+}
+
+impl Model for Members {
+    ghost use Rattle.std.specs.Prelude.{List};
+    ghost use Rattle.qml_scope.specs.declared.shape.Entry.{Entry};
+
+    ghost Value = { List Entry };
+
+    ghost view = { λ members. members.entries.items };
+}
+
+impl Members {
+    /// No objects. It takes no memory.
+    pub fn new(alloc: Global) -> Members
+        ensures { result ≡ [] }
+    {
+        Members {
+            entries: Vec::new(alloc),
+        }
+    }
+
+    /// Puts an entry behind the others. Without memory nothing changes.
+    pub fn push(&mut self, entry: Entry) -> Result<(), NoMemory>
+        ensures ok { OnOk result (self.new ≡ self.old ++ entry ∷ []) }
+        ensures err { OnErr result (self.new ≡ self.old) }
+    {
+        match self.entries.push(entry) {
+            Ok(()) => Ok(()),
+            Err(_) => Err(NoMemory),
+        }
+    }
+
+    /// The entries, in order.
+    pub fn entries(&self) -> &[Entry]
+        ensures { result.now ≡ self.now }
+    {
+        self.entries.as_slice()
+    }
 }
 
 /// One live instance of a component (Qt 5.15, "Scope and Naming Resolution"). Of each unit there is one more, whose root
@@ -27,5 +75,5 @@ pub struct Shape {
     /// The delegate names of the root.
     pub names: Named<CellNo>,
     /// What each object has under which name.
-    pub members: Vec<Entry>,
+    pub members: Members,
 }
