@@ -1,6 +1,7 @@
 -- What is kept of a loaded document or script, so that nothing is searched when it runs: rows that name one another by number.
 use Rattle.std.specs.Prelude.{ℕ, Bool, List, Option}
-use Rattle.qml_syntax.specs.Tree.{Units, Stmt, Function}
+use Rattle.qml_base.specs.declared.numbers.Place.{Place}
+use Rattle.qml_syntax.specs.Tree.{Units, Stmt, Stmts, Function}
 use Rattle.qml_value.specs.declared.value.Value.{Value}
 use Rattle.qml_types.specs.declared.kind.TypeRef.{TypeRef}
 use Rattle.qml_types.specs.declared.kind.PropKind.{PropKind}
@@ -43,7 +44,7 @@ pub record HandlerRow : Type 0 where
 -- what a name of an object finds in a document's instance
 pub data NameFinds : Type 0 where
   finds_cell : ℕ → Access → NameFinds
-  finds_signal : SignalRef → NameFinds
+  finds_signal : SignalRef → List Units → NameFinds  -- with the names of its parameters
   finds_function : ℕ → NameFinds
   finds_method : NameFinds
   finds_object : Way → NameFinds  -- by an alias of a whole object
@@ -85,10 +86,12 @@ pub record ComponentRow : Type 0 where
 pub data Body : Type 0 where
   of_statement : Stmt → List Units → Body  -- with a handler's parameters
   of_function : Function → Body
+  of_statements : Stmts → Body  -- of the function of a `Qt.binding`, or of a line of a script
 
 pub record UnitRows : Type 0 where
   pub objects : List ObjectRow
   pub components : List ComponentRow
   pub bodies : List Body
+  pub bindings : List (Place × ℕ)  -- the places of the `Qt.binding`s, with the bodies of their functions
   pub scripts : List (Units × ℕ)  -- their qualifiers; the first that is found counts
   pub functions : List (Units × ℕ)  -- those of a script, with their bodies; likewise
