@@ -43,12 +43,12 @@ told_among [] o name = None
 told_among (e ∷ es) o name = if same_object e.object o then under e.names name else told_among es o name
 
 abbrev pub told_in : Shape → ObjNo → List ℕ → Option Found
-told_in s o name = told_among s.members.items o name
+told_in s o name = told_among s.members o name
 
 -- ---- all instances, in the order in which they were added
 -- the instance of a document's component in which an object stands
 abbrev pub holds : UnitNo → ObjNo → Shape → Bool
-holds unit o s = same_unit s.unit unit && stands_among s.members.items o
+holds unit o s = same_unit s.unit unit && stands_among s.members o
 
 abbrev pub instance_of : List Shape → UnitNo → ObjNo → Option Shape
 instance_of [] unit o = None
@@ -172,7 +172,7 @@ abbrev pub delegate_name : CellNo → Shape → Option (List ℕ)
 delegate_name c s = named_by (same_cell c) s.names
 
 abbrev pub name_at : CellNo → Shape → Option (List ℕ)
-name_at c s = first_of (delegate_name c s) (name_among c s.members.items)
+name_at c s = first_of (delegate_name c s) (name_among c s.members)
 
 abbrev pub name_of_cell : CellNo → List Shape → Option (List ℕ)
 name_of_cell c [] = None

@@ -25,7 +25,7 @@ fn stands(entries: &[Entry], o: ObjNo) -> bool
 pub fn told(shape: &Shape, o: ObjNo, name: &Text) -> Option<Found>
     ensures { result ≡ told_in shape.now o name.now }
 {
-    for entry in shape.members.as_slice() {
+    for entry in shape.members.entries() {
         if entry.object == o {
             return entry.names.find(name);
         }
@@ -36,7 +36,7 @@ pub fn told(shape: &Shape, o: ObjNo, name: &Text) -> Option<Found>
 fn is_of(shape: &Shape, unit: UnitNo, o: ObjNo) -> bool
     ensures { result ≡ holds unit o shape.now }
 {
-    shape.unit == unit && stands(shape.members.as_slice(), o)
+    shape.unit == unit && stands(shape.members.entries(), o)
 }
 
 fn has_root(shape: &Shape, unit: UnitNo, root: ObjNo) -> bool
@@ -108,7 +108,7 @@ fn name_at<'a>(shape: &'a Shape, c: CellNo) -> Option<&'a [u16]>
 {
     match shape.names.name_of(c) {
         Some(name) => Some(name),
-        None => name_among(shape.members.as_slice(), c),
+        None => name_among(shape.members.entries(), c),
     }
 }
 

@@ -11,5 +11,5 @@ mod shapes;
 
 pub use named::Named;
 pub use resolving::{is_id, member, resolve};
-pub use shape::{Entry, Shape};
+pub use shape::{Entry, Members, Shape};
 pub use shapes::Shapes;

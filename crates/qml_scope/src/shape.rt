@@ -1,7 +1,10 @@
 //! The names of one live instance of a component.
 
+ghost use Rattle.std.specs.Prelude.{◌≡◌};
+
 use crate::named::Named;
 use qml_base::{CellNo, Found, ObjNo, UnitNo};
+use std::marker::Model;
 
 /// The names of one object as one document sees them, in the order of the cells' places, those of its aliases after all
 /// others.
@@ -9,6 +12,37 @@ use qml_base::{CellNo, Found, ObjNo, UnitNo};
 pub struct Entry {
     pub object: ObjNo,
     pub names: Named<Found>,
+}
+
+/// What each object of an instance has under which name, which contracts see as the list of its entries.
+#[derive(Drop)]
+pub struct Members {
+    entries: Vec<Entry>,
+}
+
+impl Model for Members {
+    ghost use Rattle.std.specs.Prelude.{List};
+    ghost use Rattle.qml_scope.specs.declared.shape.Entry as entry;
+
+    ghost Value = { List entry.Entry };
+
+    ghost view = { λ m. m.entries.items };
+}
+
+impl Members {
+    /// These entries.
+    pub fn of_vec(entries: Vec<Entry>) -> Members
+        ensures { result ≡ entries.items }
+    {
+        Members { entries }
+    }
+
+    /// The entries, in order.
+    pub fn entries(&self) -> &[Entry]
+        ensures { result.now ≡ self.now }
+    {
+        self.entries.as_slice()
+    }
 }
 
 /// One live instance of a component (Qt 5.15, "Scope and Naming Resolution"). Of each unit there is one more, whose root
@@ -27,5 +61,5 @@ pub struct Shape {
     /// The delegate names of the root.
     pub names: Named<CellNo>,
     /// What each object has under which name.
-    pub members: Vec<Entry>,
+    pub members: Members,
 }

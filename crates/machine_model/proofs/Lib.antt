@@ -1,0 +1,6 @@
+pub mod RunForms
+pub mod SettlingLemmas
+pub mod KeepLemmas
+pub mod FreshLemmas
+pub mod TraceLemmas
+mod RunExamples
