@@ -3,4 +3,5 @@ pub mod SettlingLemmas
 pub mod KeepLemmas
 pub mod FreshLemmas
 pub mod TraceLemmas
+pub mod BodyLemmas
 mod RunExamples

@@ -19,6 +19,7 @@ use Rattle.evaluation.specs.declared.came.Came.TheVariants as came
 use Rattle.evaluation.specs.declared.came.Ended.TheVariants as by
 use Rattle.evaluation.specs.declared.effect.Effect.{Effect}
 use Rattle.evaluation.specs.declared.effect.Effect.TheVariants as effect
+use Rattle.js_meaning.specs.Resuming.{Sight, Action, an_effect, an_end}
 use Rattle.evaluation.specs.Ask.{Ask, ended, reads, finds, has, by_id, condemned, does}
 use Rattle.tree_model.specs.declared.cells.Cell.{Cell}
 use Rattle.tree_model.specs.declared.cells.Content.{Content}
@@ -154,3 +155,14 @@ module _ (below : Below) where
   exec at (by_id home name go) = look (λ m. (names_of m.known).is_id home name) >>= (λ b. exec at (go b))
   exec at (condemned o go) = look (λ m. is_condemned m o) >>= (λ b. exec at (go b))
   exec at (does e left go) = act e >>= on_answer at (λ v. exec at (go v))
+
+-- ---- the same by what a body does next
+
+abbrev pub sight : Machine → Sight
+sight m = record { names = names_of m.known; held = held_in m; is_condemned = is_condemned m }
+
+abbrev pub exec_next : Below → Site → Action → Done
+exec_next below at (an_end (by.Value v)) = nothing
+exec_next below at (an_end (by.Threw why)) = tell (threw_entry at why)
+exec_next below at (an_end by.Past) = stop_with (past at)
+exec_next below at (an_effect e left go) = act below e >>= on_answer below at (λ v. exec below at (go v))

@@ -9,6 +9,11 @@ ghost use Rattle.tree_model.specs.Settling.{Tree, fresh, settled, NonePast, IsLo
 ghost use Rattle.tree_model.specs.Telling.{Changes, Reports};
 ghost use Rattle.instance_plans.specs.Numbers.{AllRows};
 ghost use Rattle.machine_model.specs.State.{Machine};
+ghost use Rattle.evaluation.specs.Ask.{Ask};
+ghost use Rattle.js_meaning.specs.Resuming.{next_action};
+ghost use Rattle.trace_print.specs.declared.entry.Site.{Site};
+ghost use Rattle.machine_model.specs.Emission.{Below};
+ghost use Rattle.machine_model.specs.Bodies.{exec, exec_next, sight};
 ghost use Rattle.machine_model.specs.Settling.{settled_of};
 ghost use Rattle.machine_model.specs.Lines.{Event, event};
 ghost use Rattle.machine_model.specs.Runs.{ShownEvent, begun, run_from};
@@ -48,4 +53,11 @@ pub fn turns_never_rise()
 #[tactic(auto, using(crate::proofs::TraceLemmas::trace_grows))]
 pub fn the_trace_only_grows()
     ensures { (root most : ℕ) (shown : Units) (e : Event) (m : Machine) → After (Begins m.trace) (Begins m.trace) (event root most shown e m) }
+{}
+
+/// A body is run step by step as its next action says: what it sees of the machine takes it to its next effect or its end,
+/// and the effect's answer goes to the rest.
+#[tactic(auto, using(crate::proofs::BodyLemmas::goes_by_action))]
+pub fn bodies_go_by_their_next_action()
+    ensures { (below : Below) (at : Site) (ask : Ask) (m : Machine) → exec below at ask m ≡ exec_next below at (next_action (sight m) ask) m }
 {}
