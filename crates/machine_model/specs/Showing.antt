@@ -24,7 +24,7 @@ use Rattle.machine_model.specs.Settling.{Settled}
 abbrev pub held_in : Machine → CellNo → Value
 held_in m c = held_at m.tree.cells (place_of m.tree.cells c)
 
-abbrev named_by : Known → CellNo → Units → Named
+abbrev pub named_by : Known → CellNo → Units → Named
 named_by known c name = record { object = c.object; delegate = has_delegate c known.instances; name = name }
 
 -- a cell as the trace names it; none for a hidden one
@@ -32,7 +32,7 @@ abbrev pub named_cell : Known → CellNo → Option Named
 named_cell known c = option_map (named_by known c) (name_of_cell c known.instances)
 
 -- the name that a hidden cell goes by in reports and stops
-abbrev shown_as : Known → CellNo → Units
+abbrev pub shown_as : Known → CellNo → Units
 shown_as known c =
     unwrap_or (option_map (λ (cell : TypeCell). cell.shown_as) (slice_get (cells_of (builtin_among (types_among known.told c.object))) c.place)) []
 
@@ -44,7 +44,7 @@ cell_site known c = site.Cell (shown_cell known c)
 
 -- ---- what is told
 
-abbrev change_entry : Machine → CellNo → Named → Entry
+abbrev pub change_entry : Machine → CellNo → Named → Entry
 change_entry m c n = entry.Change n (held_in m c)
 
 -- of a hidden cell nothing is told
@@ -67,7 +67,7 @@ tell_settled s = each tell_change s.changed >> each tell_report s.reports
 
 -- ---- what a `print` line shows
 
-abbrev print_entry : Known → Cell → Option Entry
+abbrev pub print_entry : Known → Cell → Option Entry
 print_entry known cell = option_map (λ n. entry.PrintCell n cell.held) (named_cell known cell.no)
 
 -- every named cell of every live object, by number and place
