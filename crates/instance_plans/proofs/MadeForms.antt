@@ -8,7 +8,8 @@ use Rattle.qml_types.specs.declared.kind.TypeRef.{TypeRef}
 use Rattle.program_names.specs.Loaded.{Program}
 use Rattle.program_names.specs.ComponentRoots.{roots_of}
 use Rattle.qml_scope.specs.Shapes.{Known}
-use Rattle.unit_rows.specs.Rows.{SignalRef, on_completed, on_destruction}
+use Rattle.unit_rows.specs.declared.names.SignalRef.{SignalRef}
+use Rattle.unit_rows.specs.declared.names.SignalRef.TheVariants.{Completed as on_completed, Destruction as on_destruction}
 use Rattle.unit_rows.specs.UnitRows.{rows_of_program}
 use Rattle.instance_plans.specs.Contents.{Rule, by_text, Content, plain, list_of, bound}
 use Rattle.instance_plans.specs.Cells.{MadeCell, MadeObject}

@@ -16,7 +16,9 @@ use Rattle.qml_types.specs.declared.kind.TypeRef.TheVariants.{Builtin}
 use Rattle.qml_types.specs.declared.kind.PropKind.{PropKind}
 use Rattle.qml_types.specs.declared.kind.PropKind.TheVariants as kind
 use Rattle.program_names.specs.Layers.{same_type}
-use Rattle.unit_rows.specs.Rows.{SignalRef, HandlerRow, CellRow}
+use Rattle.unit_rows.specs.declared.names.SignalRef.{SignalRef}
+use Rattle.unit_rows.specs.declared.names.HandlerRow.{HandlerRow}
+use Rattle.unit_rows.specs.declared.names.CellRow.{CellRow}
 use Rattle.qml_scope.specs.Shapes.{Known}
 use Rattle.instance_plans.specs.Numbers.{AllRows, Planned, Plan, row_at, documents_of, types_of, stands_on, planned_at, builtin_planned, value_at, object_no, cell_no, unit_no}
 use Rattle.instance_plans.specs.Contents.{by_visible, by_enabled, by_count, Content, plain, list_of, bound, GivenCell, given_in, anonymous, value_of_live}
@@ -106,7 +108,7 @@ module _ (units : AllRows) (live : Known) (plan : Plan) (given : List GivenCell)
   abbrev rows_declared : Planned → List CellRow
   rows_declared x =
       let r = row_at units x.unit x.object in
-      if x.is_around then [] else flat_map (λ u. (row_at units u 0).cells) (documents_of units r.type) ++ r.cells
+      if x.is_around then [] else flat_map (λ u. (row_at units u 0).cells) (documents_of units r.of_type) ++ r.cells
 
   abbrev cells_made : Planned → List Value → List MadeCell
   cells_made x delegates =
@@ -122,7 +124,7 @@ module _ (units : AllRows) (live : Known) (plan : Plan) (given : List GivenCell)
   handlers_made x =
       let r = row_at units x.unit x.object in
       if x.is_around then []
-      else flat_map (λ u. map (handler_by u) (row_at units u 0).handlers) (documents_of units r.type) ++ map (handler_by x.unit) r.handlers
+      else flat_map (λ u. map (handler_by u) (row_at units u 0).handlers) (documents_of units r.of_type) ++ map (handler_by x.unit) r.handlers
 
   -- ---- what a Component holds, and whether an object has a start
 
@@ -133,7 +135,7 @@ module _ (units : AllRows) (live : Known) (plan : Plan) (given : List GivenCell)
   held_by x =
       let r = row_at units x.unit x.object in
       if x.is_around then Some (x.unit, x.object)
-      else last_some (map (λ u. held_in u 0) (documents_of units r.type) ++ held_in x.unit x.object ∷ [])
+      else last_some (map (λ u. held_in u 0) (documents_of units r.of_type) ++ held_in x.unit x.object ∷ [])
 
   abbrev is_some_list : Content → Bool
   is_some_list (list_of (v ∷ vs)) = true
@@ -152,7 +154,7 @@ module _ (units : AllRows) (live : Known) (plan : Plan) (given : List GivenCell)
   abbrev elements_made : Planned → List (List (List ℕ × Value))
   elements_made x =
       let r = row_at units x.unit x.object in
-      if x.is_around then [] else flat_map (λ u. (row_at units u 0).elements) (documents_of units r.type) ++ r.elements
+      if x.is_around then [] else flat_map (λ u. (row_at units u 0).elements) (documents_of units r.of_type) ++ r.elements
 
   abbrev pub made_object : ℕ → List Value → Planned → MadeObject
   made_object first delegates x =
@@ -162,7 +164,7 @@ module _ (units : AllRows) (live : Known) (plan : Plan) (given : List GivenCell)
         is_filled = is_some (held_by x);
         owner = x.owner;
         shown = if x.is_around then codes "Component" else r.shown;
-        types = if x.is_around then Builtin no.Component ∷ Builtin no.QtObject ∷ [] else types_of units r.type;
+        types = if x.is_around then Builtin no.Component ∷ Builtin no.QtObject ∷ [] else types_of units r.of_type;
         cells = cells_made x (if nat_eq x.number first then delegates else []);
         handlers = handlers_made x;
         elements = elements_made x;

@@ -12,7 +12,7 @@ use Rattle.qml_types.specs.declared.kind.TypeNo.TheVariants as no
 use Rattle.program_names.specs.Layers.{same_type}
 use Rattle.qml_scope.specs.Names.{under}
 use Rattle.qml_scope.specs.Shapes.{Known, first_of, same_object, told_anywhere, types_among}
-use Rattle.unit_rows.specs.Rows.{ChangeRow}
+use Rattle.unit_rows.specs.declared.given.ChangeRow.{ChangeRow}
 use Rattle.unit_rows.specs.Given.{cell_given, builtin_among}
 use Rattle.instance_plans.specs.Numbers.{AllRows, PlannedInstance, Planned, Plan, row_at, documents_of, builtin_planned, planned_at, cell_no}
 use Rattle.instance_plans.specs.Contents.{Content, plain, GivenCell, given_in, content_of}
@@ -81,7 +81,7 @@ module _ (units : AllRows) (live : Known) (plan : Plan) (given : List GivenCell)
   changes_for x None = []
   changes_for x (Some t) =
       let r = row_at units x.unit x.object in
-      flat_map (λ u. changes_in x.number t u 0) (documents_of units r.type) ++ changes_in x.number t x.unit x.object
+      flat_map (λ u. changes_in x.number t u 0) (documents_of units r.of_type) ++ changes_in x.number t x.unit x.object
 
   abbrev is_changing : Planned → Bool
   is_changing x = same_type no.PropertyChanges (builtin_planned units x)

@@ -13,7 +13,9 @@ use Rattle.qml_types.specs.declared.kind.TypeNo.TheVariants as no
 use Rattle.program_names.specs.Layers.{same_type}
 use Rattle.qml_scope.specs.Names.{under}
 use Rattle.qml_scope.specs.Shapes.{Known, same_cell, instance_at, is_component}
-use Rattle.unit_rows.specs.Rows.{GivenValue, a_literal, a_body, an_object, some_objects, an_id, ValueRow}
+use Rattle.unit_rows.specs.declared.given.GivenValue.{GivenValue}
+use Rattle.unit_rows.specs.declared.given.GivenValue.TheVariants.{Literal as a_literal, Body as a_body, Object as an_object, Objects as some_objects, Id as an_id}
+use Rattle.unit_rows.specs.declared.given.ValueRow.{ValueRow}
 use Rattle.instance_plans.specs.Numbers.{AllRows, PlannedInstance, Planned, Plan, row_at, component_at, number_in, number_of, builtin_at, value_at, object_no, cell_no, unit_no}
 
 -- ---- contents

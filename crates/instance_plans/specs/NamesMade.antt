@@ -14,7 +14,11 @@ use Rattle.qml_types.specs.declared.kind.TypeNo.{TypeNo}
 use Rattle.qml_types.specs.declared.kind.TypeNo.TheVariants as no
 use Rattle.qml_types.specs.declared.kind.TypeRef.{TypeRef}
 use Rattle.program_names.specs.Layers.{names_of_type}
-use Rattle.unit_rows.specs.Rows.{UnitRows, SignalRef, change_of, own_signal, finds_cell, finds_signal, finds_function, finds_method, finds_object, finds_cell_of, NameRow}
+use Rattle.unit_rows.specs.declared.names.SignalRef.{SignalRef}
+use Rattle.unit_rows.specs.declared.names.SignalRef.TheVariants.{Change as change_of, Own as own_signal}
+use Rattle.unit_rows.specs.declared.names.NameFinds.TheVariants.{Cell as finds_cell, Signal as finds_signal, Function as finds_function, Method as finds_method, Object as finds_object, CellOf as finds_cell_of}
+use Rattle.unit_rows.specs.declared.names.NameRow.{NameRow}
+use Rattle.unit_rows.specs.Rows.{UnitRows}
 use Rattle.unit_rows.specs.NamesOfObjects.{rows_of_type}
 use Rattle.instance_plans.specs.Numbers.{AllRows, PlannedInstance, Plan, row_at, component_at, number_in, number_of, planned_instance, documents_of, builtin_of, is_component_at, object_no, cell_no, unit_no}
 use Rattle.instance_plans.specs.Contents.{has_row}
@@ -98,7 +102,7 @@ module _ (units : AllRows) (live : Known) (plan : Plan) where
 
   -- how many cells an object as written has, its delegate names among them
   abbrev pub count_of_object : ℕ → ℕ → ℕ → ℕ
-  count_of_object u o delegates = count_cells (row_at units u o).type + length (row_at units u o).cells + delegates
+  count_of_object u o delegates = count_cells (row_at units u o).of_type + length (row_at units u o).cells + delegates
 
   -- all that an object of an instance has as its document sees it
   abbrev pub names_seen : PlannedInstance → ℕ × ℕ → ℕ → List NameMade
@@ -108,8 +112,8 @@ module _ (units : AllRows) (live : Known) (plan : Plan) where
         let r = row_at units s.unit (at.0) in
         let cells = count_of_object s.unit (at.0) delegates in
         aliases_last (
-        builtin_names (at.1) cells (builtin_of units r.type) ++
-        flat_map (names_of_document (at.1) cells) (documents_of units r.type) ++
+        builtin_names (at.1) cells (builtin_of units r.of_type) ++
+        flat_map (names_of_document (at.1) cells) (documents_of units r.of_type) ++
         flat_map (made_by (Some s) s.unit (at.1) cells) r.names)
   ]
 

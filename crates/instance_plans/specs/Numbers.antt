@@ -14,7 +14,9 @@ use Rattle.qml_types.specs.declared.kind.TypeRef.{TypeRef}
 use Rattle.qml_types.specs.declared.kind.TypeRef.TheVariants.{Builtin, Document as OfDocument}
 use Rattle.program_names.specs.Layers.{same_type}
 use Rattle.program_names.specs.PathMeanings.{Way}
-use Rattle.unit_rows.specs.Rows.{ObjectRow, ComponentRow, UnitRows}
+use Rattle.unit_rows.specs.declared.unit.ObjectRow.{ObjectRow}
+use Rattle.unit_rows.specs.declared.unit.ComponentRow.{ComponentRow}
+use Rattle.unit_rows.specs.Rows.{UnitRows}
 
 -- the rows of all documents and scripts
 abbrev pub AllRows : Type 0
@@ -29,7 +31,7 @@ rows_at units u = unwrap_or (slice_get units u) no_rows
 abbrev no_object : ObjectRow
 no_object = record {
   shown = [];
-  type = Builtin no.QtObject;
+  of_type = Builtin no.QtObject;
   owner = None;
   is_child = false;
   is_held = false;
@@ -57,7 +59,7 @@ component_at units u r = unwrap_or (find (λ (c : ComponentRow). nat_eq c.root r
 abbrev documents_within : ℕ → AllRows → TypeRef → List ℕ
 documents_within zero units t = []
 documents_within (suc n) units (Builtin t) = []
-documents_within (suc n) units (OfDocument u) = documents_within n units (row_at units u.0 0).type ++ u.0 ∷ []
+documents_within (suc n) units (OfDocument u) = documents_within n units (row_at units u.0 0).of_type ++ u.0 ∷ []
 
 -- the documents that a type stands on, the lowest first; no document stands on itself, so this is deep enough
 abbrev pub documents_of : AllRows → TypeRef → List ℕ
@@ -66,7 +68,7 @@ documents_of units t = documents_within (suc (length units)) units t
 abbrev builtin_within : ℕ → AllRows → TypeRef → TypeNo
 builtin_within zero units t = no.QtObject
 builtin_within (suc n) units (Builtin t) = t
-builtin_within (suc n) units (OfDocument u) = builtin_within n units (row_at units u.0 0).type
+builtin_within (suc n) units (OfDocument u) = builtin_within n units (row_at units u.0 0).of_type
 
 abbrev pub builtin_of : AllRows → TypeRef → TypeNo
 builtin_of units t = builtin_within (suc (length units)) units t
@@ -132,7 +134,7 @@ placed inner units u r g o =
     let n = g.plan.next in
     let is_around = row.is_held && not (nat_eq o r) in
     let x : Planned = record { number = n; unit = u; object = o; is_around = is_around; owner = option_and_then (number_in g.numbers) row.owner } in
-    record { numbers = g.numbers ++ (o, n) ∷ []; plan = inside inner is_around row.type n (with_planned x g.plan) }
+    record { numbers = g.numbers ++ (o, n) ∷ []; plan = inside inner is_around row.of_type n (with_planned x g.plan) }
 
 abbrev each_placed : Inner → AllRows → ℕ → ℕ → Going → List ℕ → Going
 each_placed inner units u r g [] = g
@@ -149,7 +151,7 @@ finished u r n enclosing g = record {
 abbrev stands : Inner → AllRows → ℕ → ℕ → ℕ → Option ℕ → Plan → Plan
 stands inner units u r n enclosing plan =
     finished u r n enclosing
-    (each_placed inner units u r (record { numbers = (r, n) ∷ []; plan = inner (row_at units u r).type n plan })
+    (each_placed inner units u r (record { numbers = (r, n) ∷ []; plan = inner (row_at units u r).of_type n plan })
     (filter (λ o. not (nat_eq o r)) (component_at units u r).standing))
 
 abbrev inner_within : ℕ → AllRows → TypeRef → ℕ → Plan → Plan
@@ -190,7 +192,7 @@ abbrev pub planned_at : List Planned → ℕ → Option Planned
 planned_at objects n = find (λ (x : Planned). nat_eq x.number n) objects
 
 abbrev pub builtin_planned : AllRows → Planned → TypeNo
-builtin_planned units x = if x.is_around then no.Component else builtin_of units (row_at units x.unit x.object).type
+builtin_planned units x = if x.is_around then no.Component else builtin_of units (row_at units x.unit x.object).of_type
 
 abbrev pub builtin_at : AllRows → List Planned → ℕ → TypeNo
 builtin_at units objects n = unwrap_or (option_map (builtin_planned units) (planned_at objects n)) no.QtObject

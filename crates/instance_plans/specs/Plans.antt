@@ -12,7 +12,9 @@ use Rattle.qml_types.specs.Table.{lineage, is_writable}
 use Rattle.qml_types.specs.declared.kind.Access.{Access}
 use Rattle.program_names.specs.Layers.{names_of_type}
 use Rattle.qml_scope.specs.Shapes.{Known}
-use Rattle.unit_rows.specs.Rows.{ObjectRow, NameRow, finds_cell, finds_object, finds_cell_of}
+use Rattle.unit_rows.specs.declared.unit.ObjectRow.{ObjectRow}
+use Rattle.unit_rows.specs.declared.names.NameRow.{NameRow}
+use Rattle.unit_rows.specs.declared.names.NameFinds.TheVariants.{Cell as finds_cell, Object as finds_object, CellOf as finds_cell_of}
 use Rattle.unit_rows.specs.NamesOfObjects.{rows_of_type}
 use Rattle.unit_rows.specs.Given.{cell_given}
 use Rattle.instance_plans.specs.Numbers.{AllRows, PlannedInstance, Plan, row_at, documents_of, builtin_of, builtin_at, planned_from, planned_instance}
@@ -53,8 +55,8 @@ fault_of_name (Some r) = elim (r.finds) as (λ _. Option FieldFault) [
 -- the names of an object as its document sees it
 abbrev pub names_of_row : AllRows → ObjectRow → List NameRow
 names_of_row units r =
-    rows_of_type (flat_map names_of_type (lineage (builtin_of units r.type))) ++
-    flat_map (λ u. (row_at units u 0).names) (documents_of units r.type) ++ r.names
+    rows_of_type (flat_map names_of_type (lineage (builtin_of units r.of_type))) ++
+    flat_map (λ u. (row_at units u 0).names) (documents_of units r.of_type) ++ r.names
 
 abbrev is_named : Units → NameRow → Bool
 is_named name r = bytes_eq r.name name

@@ -50,7 +50,7 @@ accesses_declared units x =
     let r = row_at units x.unit x.object in
     elim x.is_around [
       | true ↦ []
-      | false ↦ map access_of_row (flat_map (λ u. (row_at units u 0).cells) (documents_of units r.type) ++ r.cells)
+      | false ↦ map access_of_row (flat_map (λ u. (row_at units u 0).cells) (documents_of units r.of_type) ++ r.cells)
     ]
 
 abbrev pub accesses : AllRows → Planned → List Access

@@ -33,7 +33,7 @@ handlers_written units x =
     let r = row_at units x.unit x.object in
     elim x.is_around [
       | true ↦ []
-      | false ↦ flat_map (λ u. map (handler_at u) (row_at units u 0).handlers) (documents_of units r.type) ++ map (handler_at x.unit) r.handlers
+      | false ↦ flat_map (λ u. map (handler_at u) (row_at units u 0).handlers) (documents_of units r.of_type) ++ map (handler_at x.unit) r.handlers
     ]
 
 abbrev pub names_written : AllRows → Planned → List NameRow

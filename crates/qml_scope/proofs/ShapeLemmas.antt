@@ -1,12 +1,17 @@
 -- Types in a map, and instances taken away.
-use Rattle.std.proofs.Common.{◌≡◌, ◌∙◌, ap, sym, refl, cond, nat_eq, not, Bool, true, false, List, [], ◌∷◌, map, filter, Option, None, Some, if◌then◌else◌}
+use Rattle.std.proofs.Common.{◌≡◌, ◌∙◌, ap, sym, refl, cond, nat_eq, ℕ, not, Bool, true, false, List, [], ◌∷◌, map, filter, Option, None, Some, if◌then◌else◌}
 use Rattle.std.specs.declared.alloc.Global.{Global}
 use Rattle.std.specs.declared.vec.Vec.{Vec}
+use Rattle.std.proofs.lemmas.Bool.{eqb-true, false≢true}
 use Rattle.std.specs.Map.{lookup}
 use Rattle.qml_base.specs.declared.numbers.ObjNo.{ObjNo}
 use Rattle.qml_types.specs.declared.kind.TypeRef.{TypeRef}
 use Rattle.qml_scope.specs.declared.shape.Shape.{Shape}
-use Rattle.qml_scope.specs.Shapes.{types_among, told_pair, instances_but, same_object}
+use Rattle.qml_value.specs.Scrubbing.{is_among}
+use Rattle.qml_scope.specs.Shapes.{types_among, told_pair, instances_but, instances_left, same_object}
+use Rattle.std.specs.Result.{IsOk, OnOk}
+use Rattle.std.specs.declared.result.Result.{Result}
+use Rattle.std.specs.declared.result.Result.TheVariants.{Ok, Err}
 
 abbrev Entries : Type 0
 Entries = List (ObjNo × Vec TypeRef Global)
@@ -38,3 +43,36 @@ instances_filter root (s ∷ ss) = by_root (nat_eq s.root.0 root.0) refl (instan
     by_root : (b : Bool) → nat_eq s.root.0 root.0 ≡ b → filter (λ (x : Shape). not (nat_eq x.root.0 root.0)) ss ≡ instances_but root ss → filter (λ (x : Shape). not (nat_eq x.root.0 root.0)) (s ∷ ss) ≡ (if b then instances_but root ss else s ∷ instances_but root ss)
     by_root true is later = rw is later
     by_root false is later = rw is (ap (λ rest. s ∷ rest) later)
+
+pub left_filter : (gone : List ObjNo) (ss : List Shape) → filter (λ (s : Shape). not (is_among gone s.root)) ss ≡ instances_left gone ss
+left_filter gone [] = refl
+left_filter gone (s ∷ ss) = by_root (is_among gone s.root) (left_filter gone ss)
+  where
+    by_root : (b : Bool) → filter (λ (x : Shape). not (is_among gone x.root)) ss ≡ instances_left gone ss → cond (not b) (s ∷ filter (λ (x : Shape). not (is_among gone x.root)) ss) (filter (λ (x : Shape). not (is_among gone x.root)) ss) ≡ (if b then instances_left gone ss else s ∷ instances_left gone ss)
+    by_root true later = later
+    by_root false later = ap (λ rest. s ∷ rest) later
+
+pub on_ok_there : {X E P : Type 0} (r : Result X E) → IsOk r → OnOk r P → P
+on_ok_there (Ok x) is p = p
+on_ok_there (Err e) is p = absurd (false≢true is)
+
+same_among : (gone : List ObjNo) (p q : ObjNo) → nat_eq p.0 q.0 ≡ true → is_among gone p ≡ is_among gone q
+same_among gone p q k = let e : p.0 ≡ q.0 = eqb-true p.0 q.0 k in ap (λ (n : ℕ). is_among gone (record { 0 = n })) e
+
+-- the types of one that is gone are none, those of another stay
+pub types_left : (gone : List ObjNo) (es : Entries) (p : ObjNo) → types_among (map told_pair (filter (λ (e : ObjNo × Vec TypeRef Global). not (is_among gone e.0)) es)) p ≡ (if is_among gone p then [] else types_among (map told_pair es) p)
+types_left gone [] p = nothing (is_among gone p)
+  where
+    nothing : (b : Bool) → Path (List TypeRef) [] (if b then [] else [])
+    nothing true = refl
+    nothing false = refl
+types_left gone (e ∷ es) p = by_key (is_among gone e.0) refl (nat_eq p.0 e.0.0) refl (types_left gone es p)
+  where
+    kept : Bool → Entries
+    kept b = cond (not b) (e ∷ filter (λ (e : ObjNo × Vec TypeRef Global). not (is_among gone e.0)) es) (filter (λ (e : ObjNo × Vec TypeRef Global). not (is_among gone e.0)) es)
+
+    by_key : (b : Bool) → is_among gone e.0 ≡ b → (k : Bool) → nat_eq p.0 e.0.0 ≡ k → types_among (map told_pair (filter (λ (e : ObjNo × Vec TypeRef Global). not (is_among gone e.0)) es)) p ≡ (if is_among gone p then [] else types_among (map told_pair es) p) → types_among (map told_pair (kept b)) p ≡ (if is_among gone p then [] else types_among (map told_pair (e ∷ es)) p)
+    by_key true g false k rest = rw k rest
+    by_key true g true k rest = let same : is_among gone p ≡ true = same_among gone p e.0 k ∙ g in rest ∙ rw same refl
+    by_key false g false k rest = rw k rest
+    by_key false g true k rest = let same : is_among gone p ≡ false = same_among gone p e.0 k ∙ g in rw (k, same) refl

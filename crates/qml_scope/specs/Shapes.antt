@@ -10,6 +10,7 @@ use Rattle.qml_base.specs.declared.names.Home.{Home}
 use Rattle.qml_base.specs.declared.names.Found.{Found}
 use Rattle.qml_base.specs.declared.names.Found.TheVariants as finds
 use Rattle.evaluation.specs.Ask.{Names}
+use Rattle.qml_value.specs.Scrubbing.{is_among}
 use Rattle.qml_scope.specs.declared.shape.Entry.{Entry}
 use Rattle.qml_scope.specs.declared.shape.Shape.{Shape}
 use Rattle.qml_types.specs.declared.kind.TypeRef.{TypeRef}
@@ -88,6 +89,11 @@ is_component told o = has_type (types_among told o) (Builtin no.Component)
 pub record Known : Type 0 where
   pub instances : List Shape
   pub told : List (ObjNo × List TypeRef)
+
+-- what is known, and of how many objects more the types can be told without memory
+pub record Stored : Type 0 where
+  pub known : Known
+  pub room : ℕ
 
 -- the object has these types then, and nothing else is changed
 abbrev pub TellsOf : ObjNo → List TypeRef → Known → Known → Type 0
@@ -212,6 +218,17 @@ names_of known = record { resolve = resolved known; member = member_of known; is
 abbrev pub instances_but : ObjNo → List Shape → List Shape
 instances_but root [] = []
 instances_but root (s ∷ ss) = if same_object s.root root then instances_but root ss else s ∷ instances_but root ss
+
+-- the instances whose roots aren't gone
+abbrev pub instances_left : List ObjNo → List Shape → List Shape
+instances_left gone [] = []
+instances_left gone (s ∷ ss) = if is_among gone s.root then instances_left gone ss else s ∷ instances_left gone ss
+
+-- objects are gone: the instances of which one was the root, and their types; nothing else is changed
+abbrev pub ForgetsAll : List ObjNo → Known → Known → Type 0
+ForgetsAll gone old new =
+    (new.instances ≡ instances_left gone old.instances)
+    × ((p : ObjNo) → types_among new.told p ≡ (if is_among gone p then [] else types_among old.told p))
 
 -- types as they lie in a map
 abbrev pub told_pair : ObjNo × Vec TypeRef Global → ObjNo × List TypeRef

@@ -10,9 +10,9 @@ use tree_model::Lookup;
 impl Lookup for Shapes {
     ghost use Rattle.qml_scope.specs.Shapes.{names_of, types_among};
 
-    ghost names = { names_of };
+    ghost names = { λ shapes. names_of shapes.known };
 
-    ghost types = { λ known. types_among known.told };
+    ghost types = { λ shapes. types_among shapes.known.told };
 
     fn resolve(&self, home: Home, name: &Text) -> Found {
         resolving::resolve(self, home, name)

@@ -33,7 +33,7 @@ fn is_global(name: &Text) -> bool
 
 /// What a name finds in a component: its ids, its delegate names, what the scope object has, and its root.
 fn here(shapes: &Shapes, shape: &Shape, scope: Option<Found>, name: &Text) -> Option<Found>
-    ensures { result ≡ found_here shapes.now.instances (is_component shapes.now.told) shape.now scope name.now }
+    ensures { result ≡ found_here shapes.now.known.instances (is_component shapes.now.known.told) shape.now scope name.now }
 {
     if let Some(o) = shape.ids.find(name) {
         if shapes.is_component(o) {
@@ -52,7 +52,7 @@ fn here(shapes: &Shapes, shape: &Shape, scope: Option<Found>, name: &Text) -> Op
 
 /// The instance around one.
 fn around<'a>(shapes: &'a Shapes, shape: &Shape) -> Option<&'a Shape>
-    ensures { option_copied result ≡ around_of shapes.now.instances shape.now.unit shape.now.enclosing }
+    ensures { option_copied result ≡ around_of shapes.now.known.instances shape.now.unit shape.now.enclosing }
 {
     match shape.enclosing {
         Some(root) => find_root(shapes.instances(), shape.unit, root),
@@ -67,7 +67,7 @@ fn outwards(
     scope: Option<Found>,
     name: &Text,
 ) -> Option<Found>
-    ensures { result ≡ from_here shapes.now (option_copied from.entry) scope name.now }
+    ensures { result ≡ from_here shapes.now.known (option_copied from.entry) scope name.now }
 {
     let mut at = from;
     let mut scope = scope;
@@ -88,7 +88,7 @@ fn outwards(
 
 /// The component in which code stands: that of its author, else that of its scope object.
 fn component<'a>(shapes: &'a Shapes, home: Home) -> Option<&'a Shape>
-    ensures { option_copied result ≡ component_of shapes.now.instances home }
+    ensures { option_copied result ≡ component_of shapes.now.known.instances home }
 {
     match find_instance(shapes.instances(), home.unit, home.author) {
         Some(shape) => Some(shape),
@@ -100,7 +100,7 @@ fn component<'a>(shapes: &'a Shapes, home: Home) -> Option<&'a Shape>
 /// components around it outwards, the names of the unit that belong to no object, and globals. `Nothing` comes exactly
 /// where none of these has the name.
 pub fn resolve(shapes: &Shapes, home: Home, name: &Text) -> Found
-    ensures { result ≡ resolved shapes.now home name.now }
+    ensures { result ≡ resolved shapes.now.known home name.now }
 {
     let scope = seen(shapes.instances(), home.unit, home.scope, name);
     if let Some(found) = outwards(shapes, component(shapes, home), scope, name) {
@@ -117,7 +117,7 @@ pub fn resolve(shapes: &Shapes, home: Home, name: &Text) -> Found
 
 /// Whether the component finds the name as an id, if it finds it.
 fn by_id(shapes: &Shapes, shape: &Shape, scope: Option<Found>, name: &Text) -> Option<bool>
-    ensures { result ≡ id_here shapes.now.instances (is_component shapes.now.told) shape.now scope name.now }
+    ensures { result ≡ id_here shapes.now.known.instances (is_component shapes.now.known.told) shape.now scope name.now }
 {
     if shape.ids.find(name).is_some() {
         return Some(true);
@@ -130,7 +130,7 @@ fn by_id(shapes: &Shapes, shape: &Shape, scope: Option<Found>, name: &Text) -> O
 
 /// Whether a name is found as an id from a component outwards.
 fn ids(shapes: &Shapes, from: Option<&Shape>, scope: Option<Found>, name: &Text) -> bool
-    ensures { result ≡ ids_from_here shapes.now (option_copied from.entry) scope name.now }
+    ensures { result ≡ ids_from_here shapes.now.known (option_copied from.entry) scope name.now }
 {
     let mut at = from;
     let mut scope = scope;
@@ -151,7 +151,7 @@ fn ids(shapes: &Shapes, from: Option<&Shape>, scope: Option<Found>, name: &Text)
 
 /// Whether the name finds what it finds from a home as an id, and not as an alias of a whole object.
 pub fn is_id(shapes: &Shapes, home: Home, name: &Text) -> bool
-    ensures { result ≡ is_id_of shapes.now home name.now }
+    ensures { result ≡ is_id_of shapes.now.known home name.now }
 {
     let scope = seen(shapes.instances(), home.unit, home.scope, name);
     ids(shapes, component(shapes, home), scope, name)
@@ -160,7 +160,7 @@ pub fn is_id(shapes: &Shapes, home: Home, name: &Text) -> bool
 /// What the object itself has under the name; delegate names aren't counted. `Nothing` comes exactly where it has no
 /// such name.
 pub fn member(shapes: &Shapes, o: ObjNo, name: &Text) -> Found
-    ensures { result ≡ member_of shapes.now o name.now }
+    ensures { result ≡ member_of shapes.now.known o name.now }
 {
     match told_first(shapes.instances(), o, name) {
         Some(found) => found,

@@ -1,9 +1,10 @@
 //! The names of one live instance of a component.
 
-ghost use Rattle.std.specs.Prelude.{◌≡◌};
+ghost use Rattle.std.specs.Prelude.{◌≡◌, ◌++◌, ◌∷◌, [], OnOk, OnErr};
 
 use crate::named::Named;
-use qml_base::{CellNo, Found, ObjNo, UnitNo};
+use qml_base::{CellNo, Found, NoMemory, ObjNo, UnitNo};
+use std::alloc::Global;
 use std::marker::Model;
 
 /// The names of one object as one document sees them, in the order of the cells' places, those of its aliases after all
@@ -14,7 +15,7 @@ pub struct Entry {
     pub names: Named<Found>,
 }
 
-/// What each object of an instance has under which name, which contracts see as the list of its entries.
+/// The objects of an instance with their names. Contracts see them as the list of the entries.
 #[derive(Drop)]
 pub struct Members {
     entries: Vec<Entry>,
@@ -22,19 +23,32 @@ pub struct Members {
 
 impl Model for Members {
     ghost use Rattle.std.specs.Prelude.{List};
-    ghost use Rattle.qml_scope.specs.declared.shape.Entry as entry;
+    ghost use Rattle.qml_scope.specs.declared.shape.Entry.{Entry};
 
-    ghost Value = { List entry.Entry };
+    ghost Value = { List Entry };
 
-    ghost view = { λ m. m.entries.items };
+    ghost view = { λ members. members.entries.items };
 }
 
 impl Members {
-    /// These entries.
-    pub fn of_vec(entries: Vec<Entry>) -> Members
-        ensures { result ≡ entries.items }
+    /// No objects. It takes no memory.
+    pub fn new(alloc: Global) -> Members
+        ensures { result ≡ [] }
     {
-        Members { entries }
+        Members {
+            entries: Vec::new(alloc),
+        }
+    }
+
+    /// Puts an entry behind the others. Without memory nothing changes.
+    pub fn push(&mut self, entry: Entry) -> Result<(), NoMemory>
+        ensures ok { OnOk result (self.new ≡ self.old ++ entry ∷ []) }
+        ensures err { OnErr result (self.new ≡ self.old) }
+    {
+        match self.entries.push(entry) {
+            Ok(()) => Ok(()),
+            Err(_) => Err(NoMemory),
+        }
     }
 
     /// The entries, in order.

@@ -1,7 +1,11 @@
 //! The live instances, and the types of objects.
 
-ghost use Rattle.std.specs.Prelude.{◌≡◌, ◌++◌, ◌∷◌, [], OnOk, OnErr, option_copied};
-ghost use Rattle.qml_scope.specs.Shapes.{TellsOf, types_among, instances_but, is_component, name_of_cell, has_delegate};
+ghost use Rattle.std.specs.Prelude.{◌≡◌, ◌<◌, ◌++◌, ◌∷◌, [], OnOk, OnErr, option_copied};
+ghost use Rattle.qml_scope.specs.Shapes.{TellsOf, ForgetsAll, types_among, instances_but, is_component, name_of_cell, has_delegate};
+ghost use Rattle.std.specs.Prelude.{map, if◌then◌else◌};
+ghost use Rattle.qml_base.specs.declared.numbers.ObjNo.{ObjNo};
+ghost use Rattle.qml_value.specs.Scrubbing.{is_among};
+ghost use Rattle.qml_scope.specs.Shapes.{told_pair, instances_left};
 ghost use Rattle.qml_types.specs.declared.kind.TypeRef.TheVariants.{Builtin as builtin};
 ghost use Rattle.qml_types.specs.declared.kind.TypeNo.TheVariants as no;
 ghost use Rattle.tree_model.specs.Converting.{same_type, has_type};
@@ -11,6 +15,7 @@ use crate::shape::Shape;
 use indexmap::IndexMap;
 use qml_base::{CellNo, NoMemory, ObjNo};
 use qml_types::{TypeNo, TypeRef};
+use qml_value::GoneObjects;
 use std::alloc::Global;
 use std::marker::Model;
 
@@ -23,11 +28,15 @@ pub struct Shapes {
 
 impl Model for Shapes {
     ghost use Rattle.std.specs.Prelude.{map};
-    ghost use Rattle.qml_scope.specs.Shapes.{Known, told_pair};
+    ghost use Rattle.indexmap.specs.IndexMap.{spare};
+    ghost use Rattle.qml_scope.specs.Shapes.{Stored, told_pair};
 
-    ghost Value = { Known };
+    ghost Value = { Stored };
 
-    ghost view = { λ shapes. record { instances = shapes.instances.items; told = map told_pair shapes.told.entries } };
+    ghost view = { λ shapes. record {
+      known = record { instances = shapes.instances.items; told = map told_pair shapes.told.entries };
+      room = spare shapes.told;
+    } };
 }
 
 fn is_component_type(t: TypeRef) -> bool
@@ -50,11 +59,23 @@ fn has_component(types: &[TypeRef]) -> bool
     false
 }
 
+fn keep_instances(instances: &mut Vec<Shape>, gone: &GoneObjects)
+    ensures { instances.new.items ≡ instances_left gone.now instances.old.items }
+{
+    instances.retain(|shape| !gone.has(shape.root));
+}
+
+fn keep_types(told: &mut IndexMap<ObjNo, Vec<TypeRef>>, gone: &GoneObjects)
+    ensures { (p : ObjNo) → types_among (map told_pair told.new.entries) p ≡ (if is_among gone.now p then [] else types_among (map told_pair told.old.entries) p) }
+{
+    told.retain(|object, _types| !gone.has(*object));
+}
+
 impl Shapes {
     /// No instances and no types. It takes no memory.
     pub fn new(alloc: Global) -> Shapes
-        ensures instances { result.instances ≡ [] }
-        ensures told { result.told ≡ [] }
+        ensures instances { result.known.instances ≡ [] }
+        ensures told { result.known.told ≡ [] }
     {
         Shapes {
             instances: Vec::new(alloc),
@@ -64,16 +85,16 @@ impl Shapes {
 
     /// The live instances, in the order in which they were added.
     pub fn instances(&self) -> &[Shape]
-        ensures { result.now ≡ self.now.instances }
+        ensures { result.now ≡ self.now.known.instances }
     {
         self.instances.as_slice()
     }
 
     /// Adds an instance behind the others. Without memory nothing changes.
     pub fn add(&mut self, instance: Shape) -> Result<(), NoMemory>
-        ensures ok { OnOk result (self.new.instances ≡ self.old.instances ++ instance ∷ []) }
-        ensures err { OnErr result (self.new.instances ≡ self.old.instances) }
-        ensures told { self.new.told ≡ self.old.told }
+        ensures ok { OnOk result (self.new.known.instances ≡ self.old.known.instances ++ instance ∷ []) }
+        ensures err { OnErr result (self.new.known.instances ≡ self.old.known.instances) }
+        ensures told { self.new.known.told ≡ self.old.known.told }
     {
         match self.instances.push(instance) {
             Ok(()) => Ok(()),
@@ -83,16 +104,16 @@ impl Shapes {
 
     /// Drops the instances of a root. It takes no memory.
     pub fn forget(&mut self, root: ObjNo)
-        ensures instances { self.new.instances ≡ instances_but root self.old.instances }
-        ensures told { self.new.told ≡ self.old.told }
+        ensures instances { self.new.known.instances ≡ instances_but root self.old.known.instances }
+        ensures told { self.new.known.told ≡ self.old.known.told }
     {
         self.instances.retain(|shape| shape.root != root);
     }
 
     /// Tells the types of an object, from its own on, in place of those that it had. Without memory nothing changes.
     pub fn tell(&mut self, o: ObjNo, types: Vec<TypeRef>) -> Result<(), NoMemory>
-        ensures ok { OnOk result (TellsOf o types.items self.old self.new) }
-        ensures err { OnErr result (self.new ≡ self.old) }
+        ensures ok { OnOk result (TellsOf o types.items self.old.known self.new.known) }
+        ensures err { OnErr result (self.new.known ≡ self.old.known) }
     {
         match self.told.insert(o, types) {
             Ok(_) => Ok(()),
@@ -100,9 +121,28 @@ impl Shapes {
         }
     }
 
+    /// Makes room for the types of one object more.
+    pub fn make_room(&mut self) -> Result<(), NoMemory>
+        ensures ok { OnOk result (0 < self.new.room) }
+        ensures known { self.new.known ≡ self.old.known }
+    {
+        match self.told.reserve(1) {
+            Ok(()) => Ok(()),
+            Err(_) => Err(NoMemory),
+        }
+    }
+
+    /// Tells the types of an object, as `tell` does, where there is room for them. It takes no memory.
+    pub fn tell_in_room(&mut self, o: ObjNo, types: Vec<TypeRef>)
+        requires { 0 < self.old.room }
+        ensures { TellsOf o types.items self.old.known self.new.known }
+    {
+        let _ = self.told.insert(o, types);
+    }
+
     /// The types of the object, from its own on; none where they weren't told.
     pub fn types_told(&self, o: ObjNo) -> &[TypeRef]
-        ensures { result.now ≡ types_among self.now.told o }
+        ensures { result.now ≡ types_among self.now.known.told o }
     {
         match self.told.get(&o) {
             Some(types) => types.as_slice(),
@@ -112,14 +152,23 @@ impl Shapes {
 
     /// Drops the types of an object. It takes no memory.
     pub fn forget_object(&mut self, o: ObjNo)
-        ensures { TellsOf o [] self.old self.new }
+        ensures { TellsOf o [] self.old.known self.new.known }
     {
         let _ = self.told.swap_remove(&o);
     }
 
+    /// Drops the instances whose roots are gone, and the types of the objects that are gone. It takes no memory.
+    pub fn forget_all(&mut self, gone: &[ObjNo])
+        ensures { ForgetsAll gone.now self.old.known self.new.known }
+    {
+        let gone = GoneObjects::new(gone);
+        keep_instances(&mut self.instances, &gone);
+        keep_types(&mut self.told, &gone);
+    }
+
     /// Whether the object is a Component.
     pub fn is_component(&self, o: ObjNo) -> bool
-        ensures { result ≡ is_component self.now.told o }
+        ensures { result ≡ is_component self.now.known.told o }
     {
         has_component(self.types_told(o))
     }
@@ -127,14 +176,14 @@ impl Shapes {
     /// The name under which the cell was declared, as UTF-16 units, and never an alias's while its own is told before those;
     /// none exactly where no instance has one, as for a hidden cell.
     pub fn name_of(&self, c: CellNo) -> Option<&[u16]>
-        ensures { option_copied result ≡ name_of_cell c self.now.instances }
+        ensures { option_copied result ≡ name_of_cell c self.now.known.instances }
     {
         cell_name(self.instances.as_slice(), c)
     }
 
     /// Whether the cell is that of a delegate name.
     pub fn is_delegate_name(&self, c: CellNo) -> bool
-        ensures { result ≡ has_delegate c self.now.instances }
+        ensures { result ≡ has_delegate c self.now.known.instances }
     {
         has_delegate(self.instances.as_slice(), c)
     }

@@ -1,87 +1,21 @@
 -- What is kept of a loaded document or script, so that nothing is searched when it runs: rows that name one another by number.
+-- The rows are the types of the code.
 use Rattle.std.specs.Prelude.{ℕ, Bool, List, Option}
 use Rattle.qml_base.specs.declared.numbers.Place.{Place}
 use Rattle.qml_syntax.specs.Tree.{Units, Stmt, Stmts, Function}
-use Rattle.qml_value.specs.declared.value.Value.{Value}
-use Rattle.qml_types.specs.declared.kind.TypeRef.{TypeRef}
-use Rattle.qml_types.specs.declared.kind.PropKind.{PropKind}
-use Rattle.qml_types.specs.declared.kind.Access.{Access}
-use Rattle.program_names.specs.PathMeanings.{Way}
-
--- what is given: a literal after conversion, what the body of a number comes to, the object of a number, the objects of a
--- list, or the object of an id in the component or around it
-pub data GivenValue : Type 0 where
-  a_literal : Value → GivenValue
-  a_body : ℕ → GivenValue
-  an_object : ℕ → GivenValue
-  some_objects : List ℕ → GivenValue
-  an_id : Units → GivenValue
-
--- for the cell of a place of an object that the document's instance makes
-pub record ValueRow : Type 0 where
-  pub to : Way
-  pub place : ℕ
-  pub value : GivenValue
-
--- what a PropertyChanges gives for names behind its target
-pub record ChangeRow : Type 0 where
-  pub path : List Units
-  pub value : GivenValue
-
--- a signal: the change of the cell of a place, another by its number among those of the object, one of the target of a
--- Connections by the handler's name, or one of the two that are attached
-pub data SignalRef : Type 0 where
-  change_of : ℕ → SignalRef
-  own_signal : ℕ → SignalRef
-  of_target : Units → SignalRef
-  on_completed : SignalRef
-  on_destruction : SignalRef
-
-pub record HandlerRow : Type 0 where
-  pub signal : SignalRef
-  pub body : ℕ
-
--- what a name of an object finds in a document's instance
-pub data NameFinds : Type 0 where
-  finds_cell : ℕ → Access → NameFinds
-  finds_signal : SignalRef → List Units → NameFinds  -- with the names of its parameters
-  finds_function : ℕ → NameFinds
-  finds_method : NameFinds
-  finds_object : Way → NameFinds  -- by an alias of a whole object
-  finds_cell_of : Way → ℕ → Access → NameFinds  -- by an alias of a property
-
-pub record NameRow : Type 0 where
-  pub name : Units
-  pub finds : NameFinds
-
--- a declared property
-pub record CellRow : Type 0 where
-  pub name : Units
-  pub kind : PropKind
-  pub access : Access
-
--- an object as written
-pub record ObjectRow : Type 0 where
-  pub shown : Units
-  pub type : TypeRef
-  pub owner : Option ℕ
-  pub is_child : Bool  -- written as an Item's child, and an Item
-  pub is_held : Bool  -- a Component is made around it
-  pub holds : Option ℕ  -- what a Component holds
-  pub cells : List CellRow
-  pub values : List ValueRow
-  pub changes : List ChangeRow
-  pub handlers : List HandlerRow
-  pub names : List NameRow  -- those that it declares
-  pub elements : List (List (Units × Value))  -- the rows of a ListModel
-
--- the root of a component, that of the component around it, its objects in document order, with those around which a
--- Component is made in it, and its ids
-pub record ComponentRow : Type 0 where
-  pub root : ℕ
-  pub enclosing : Option ℕ
-  pub standing : List ℕ
-  pub ids : List (Units × ℕ)
+pub use Rattle.unit_rows.specs.declared.given.GivenValue.{GivenValue}
+pub use Rattle.unit_rows.specs.declared.given.GivenValue.TheVariants.{Literal as a_literal, Body as a_body, Object as an_object, Objects as some_objects, Id as an_id}
+pub use Rattle.unit_rows.specs.declared.given.ValueRow.{ValueRow}
+pub use Rattle.unit_rows.specs.declared.given.ChangeRow.{ChangeRow}
+pub use Rattle.unit_rows.specs.declared.names.SignalRef.{SignalRef}
+pub use Rattle.unit_rows.specs.declared.names.SignalRef.TheVariants.{Change as change_of, Own as own_signal, OfTarget as of_target, Completed as on_completed, Destruction as on_destruction}
+pub use Rattle.unit_rows.specs.declared.names.HandlerRow.{HandlerRow}
+pub use Rattle.unit_rows.specs.declared.names.NameFinds.{NameFinds}
+pub use Rattle.unit_rows.specs.declared.names.NameFinds.TheVariants.{Cell as finds_cell, Signal as finds_signal, Function as finds_function, Method as finds_method, Object as finds_object, CellOf as finds_cell_of}
+pub use Rattle.unit_rows.specs.declared.names.NameRow.{NameRow}
+pub use Rattle.unit_rows.specs.declared.names.CellRow.{CellRow}
+pub use Rattle.unit_rows.specs.declared.unit.ObjectRow.{ObjectRow}
+pub use Rattle.unit_rows.specs.declared.unit.ComponentRow.{ComponentRow}
 
 pub data Body : Type 0 where
   of_statement : Stmt → List Units → Body  -- with a handler's parameters

@@ -91,7 +91,7 @@ object_row p roots d all o =
     let children = filter_map child_of members in
     record {
       shown = shown_of (object_at p d o).type;
-      type = type_of_object p d o;
+      of_type = type_of_object p d o;
       owner = owner p d o;
       is_child = is_written_child p roots d (object_at p d o).role && is_type p d o no.Item;
       is_held = is_held p roots d o;

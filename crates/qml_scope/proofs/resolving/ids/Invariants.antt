@@ -3,7 +3,7 @@ use Rattle.qml_scope.specs.Shapes.{is_component, ids_outwards}
 use Rattle.qml_scope.proofs.resolving.ids.Given as goal
 
 abbrev pub invariant-outwards : goal.invariant-outwards
-invariant-outwards l = ids_outwards (l.left + 1) l.shapes.instances (is_component l.shapes.told) (option_copied l.at) l.scope l.name ≡ ids_outwards (l.initial.left + 1) l.shapes.instances (is_component l.shapes.told) (option_copied l.initial.at) l.initial.scope l.name
+invariant-outwards l = ids_outwards (l.left + 1) l.shapes.known.instances (is_component l.shapes.known.told) (option_copied l.at) l.scope l.name ≡ ids_outwards (l.initial.left + 1) l.shapes.known.instances (is_component l.shapes.known.told) (option_copied l.initial.at) l.initial.scope l.name
 
 abbrev pub decreases-outwards : goal.decreases-outwards
 decreases-outwards l = l.left

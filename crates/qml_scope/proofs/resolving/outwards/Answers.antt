@@ -5,8 +5,8 @@ use Rattle.qml_scope.proofs.resolving.outwards.Goals as goal
 
 pub outwards-preserved : goal.outwards-preserved
 outwards-preserved c =
-    let makes = is_component c.args.shapes.now.told in
+    let makes = is_component c.args.shapes.now.known.told in
     let some : 0 < c.outwards.left = omega arith in
-    sym (next_outwards c.outwards.left c.args.shapes.now.instances makes c.in-Some.shape.now c.outwards.scope c.args.name.now (option_copied c.around-at.result) some c.in_default-here.ensures c.around-at.ensures)
-    ∙ ap (λ s. outwards (c.outwards.left + 1) c.args.shapes.now.instances makes s c.outwards.scope c.args.name.now) (sym (ap option_copied c.in-Some.is))
+    sym (next_outwards c.outwards.left c.args.shapes.now.known.instances makes c.in-Some.shape.now c.outwards.scope c.args.name.now (option_copied c.around-at.result) some c.in_default-here.ensures c.around-at.ensures)
+    ∙ ap (λ s. outwards (c.outwards.left + 1) c.args.shapes.now.known.instances makes s c.outwards.scope c.args.name.now) (sym (ap option_copied c.in-Some.is))
     ∙ c.outwards.invariant
