@@ -31,7 +31,7 @@ use Rattle.trace_print.specs.declared.entry.Entry.{Entry}
 use Rattle.trace_print.specs.declared.entry.Entry.TheVariants as entry
 use Rattle.trace_print.specs.declared.entry.Site.{Site}
 use Rattle.qml_scope.specs.Shapes.{names_of, types_among}
-use Rattle.unit_rows.specs.Rows.{CellRow}
+use Rattle.unit_rows.specs.declared.names.CellRow.{CellRow}
 use Rattle.unit_rows.specs.Given.{cell_given}
 use Rattle.instance_plans.specs.Numbers.{AllRows, Planned, row_at, documents_of, builtin_planned}
 use Rattle.machine_model.specs.State.{Machine, past, numbered}

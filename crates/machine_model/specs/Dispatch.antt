@@ -15,7 +15,11 @@ use Rattle.program_names.specs.Layers.{names_of_type, same_type}
 use Rattle.tree_model.specs.declared.cells.Object.{Object}
 use Rattle.tree_model.specs.Rules.{cell_at, is_set}
 use Rattle.qml_types.specs.Table.{lineage}
-use Rattle.unit_rows.specs.Rows.{SignalRef, change_of, own_signal, of_target, on_completed, on_destruction, HandlerRow, NameRow, finds_signal}
+use Rattle.unit_rows.specs.declared.names.SignalRef.{SignalRef}
+use Rattle.unit_rows.specs.declared.names.HandlerRow.{HandlerRow}
+use Rattle.unit_rows.specs.declared.names.NameRow.{NameRow}
+use Rattle.unit_rows.specs.declared.names.SignalRef.TheVariants.{Change as change_of, Own as own_signal, OfTarget as of_target, Completed as on_completed, Destruction as on_destruction}
+use Rattle.unit_rows.specs.declared.names.NameFinds.TheVariants.{Signal as finds_signal}
 use Rattle.unit_rows.specs.NamesOfObjects.{rows_of_type}
 use Rattle.instance_plans.specs.Numbers.{AllRows, Planned, row_at, documents_of, builtin_planned, planned_at, unit_no}
 use Rattle.instance_plans.specs.NamesMade.{signal_no}
