@@ -6,7 +6,8 @@ use Rattle.qml_base.specs.declared.numbers.ExprNo.{ExprNo}
 use Rattle.qml_syntax.specs.Tree.{Units}
 use Rattle.qml_value.specs.declared.value.Value.{Value}
 use Rattle.trace_print.specs.declared.entry.Entry.{Entry}
-use Rattle.trace_print.specs.declared.entry.Site.{Site}
+pub use Rattle.machine_model.specs.declared.stop.Stop.{Stop}
+pub use Rattle.machine_model.specs.declared.stop.Stop.TheVariants.{Past as past, Nesting as nesting, Turns as turns, Objects as objects, Unanswered as unanswered}
 use Rattle.tree_model.specs.Settling.{Tree}
 use Rattle.qml_scope.specs.Shapes.{Known}
 use Rattle.load_faults.specs.Loading.{Loading}
@@ -36,15 +37,6 @@ pub record Machine : Type 0 where
   pub turns : ℕ
   pub trace : List Entry
   pub answered : ℕ
-
--- why the run stops: a number past the limit, too many deliveries in one another, too many in a line, too many objects; or
--- there is no further answer
-pub data Stop : Type 0 where
-  past : Site → Stop
-  nesting : ObjNo → Option Units → Stop
-  turns : Stop
-  objects : Stop
-  unanswered : Stop
 
 -- a signal: by its number among those of its object, or one of the two that are attached
 pub data Signal : Type 0 where

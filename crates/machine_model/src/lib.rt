@@ -6,3 +6,6 @@
 #![tactic(auto)]
 
 pub mod laws;
+mod stop;
+
+pub use stop::Stop;

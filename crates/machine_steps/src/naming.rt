@@ -26,7 +26,7 @@ fn builtin(types: &[TypeRef]) -> TypeNo
 
 /// A cell under a name.
 fn under(shapes: &Shapes, c: CellNo, name: Text) -> Named
-    ensures { result ≡ named_by shapes.now c name }
+    ensures { result ≡ named_by shapes.now.known c name }
 {
     Named {
         object: c.object,
@@ -37,7 +37,7 @@ fn under(shapes: &Shapes, c: CellNo, name: Text) -> Named
 
 /// The cell as the trace names it, by the name under which it was declared; none for a hidden cell, of which nothing is told.
 pub fn named_cell(alloc: Global, shapes: &Shapes, c: CellNo) -> Result<Option<Named>, NoMemory>
-    ensures { IfOk result (λ name. name ≡ named shapes.now c) }
+    ensures { IfOk result (λ name. name ≡ named shapes.now.known c) }
 {
     match shapes.name_of(c) {
         Some(units) => {
@@ -52,7 +52,7 @@ pub fn named_cell(alloc: Global, shapes: &Shapes, c: CellNo) -> Result<Option<Na
 
 /// The name by which a hidden cell is told of, as of the built-in type of its object.
 fn hidden(alloc: Global, shapes: &Shapes, c: CellNo) -> Result<Text, NoMemory>
-    ensures { IfOk result (λ name. name ≡ hidden_name shapes.now c) }
+    ensures { IfOk result (λ name. name ≡ hidden_name shapes.now.known c) }
 {
     match cell_at(builtin(shapes.types_told(c.object)), c.place) {
         Some(cell) => match Text::from_latin1(alloc, cell.shown_as.as_bytes()) {
@@ -65,7 +65,7 @@ fn hidden(alloc: Global, shapes: &Shapes, c: CellNo) -> Result<Text, NoMemory>
 
 /// The cell as reports and stops name it: a hidden one by the name that it is shown by, as `visible` for `visibleSet`.
 pub fn shown_cell(alloc: Global, shapes: &Shapes, c: CellNo) -> Result<Named, NoMemory>
-    ensures { IfOk result (λ name. name ≡ shown shapes.now c) }
+    ensures { IfOk result (λ name. name ≡ shown shapes.now.known c) }
 {
     if let Some(name) = named_cell(alloc, shapes, c)? {
         return Ok(name);
