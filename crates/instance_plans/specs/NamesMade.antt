@@ -18,6 +18,7 @@ use Rattle.unit_rows.specs.declared.names.SignalRef.{SignalRef}
 use Rattle.unit_rows.specs.declared.names.SignalRef.TheVariants.{Change as change_of, Own as own_signal}
 use Rattle.unit_rows.specs.declared.names.NameFinds.TheVariants.{Cell as finds_cell, Signal as finds_signal, Function as finds_function, Method as finds_method, Object as finds_object, CellOf as finds_cell_of}
 use Rattle.unit_rows.specs.declared.names.NameRow.{NameRow}
+use Rattle.unit_rows.specs.Rows.{UnitRows}
 use Rattle.unit_rows.specs.NamesOfObjects.{rows_of_type}
 use Rattle.instance_plans.specs.Numbers.{AllRows, PlannedInstance, Plan, row_at, component_at, number_in, number_of, planned_instance, documents_of, builtin_of, is_component_at, object_no, cell_no, unit_no}
 use Rattle.instance_plans.specs.Contents.{has_row}
@@ -78,7 +79,7 @@ module _ (units : AllRows) (live : Known) (plan : Plan) where
   abbrev made_by : Option PlannedInstance → ℕ → ℕ → ℕ → NameRow → List NameMade
   made_by s u n cells r = elim (r.finds) as (λ _. List NameMade) [
     | finds_cell place a ↦ name_made r.name (finds.Cell (cell_no n place)) (is_writable a) false ∷ []
-    | finds_signal x ↦ name_made r.name (finds.Signal (object_no n) (signal_no x)) false false ∷ []
+    | finds_signal x parameters ↦ name_made r.name (finds.Signal (object_no n) (signal_no x)) false false ∷ []
     | finds_function b ↦ name_made r.name (finds.Body (record { unit = unit_no u; at = b }) (object_no n)) false false ∷ []
     | finds_method ↦ name_made r.name (finds.Method (object_no n) (hidden_cell n cells r.name)) false false ∷ []
     | finds_object w ↦ list_of_option (option_map (aliased_object r.name) (option_and_then (λ i. number_of plan.instances i w) s))
@@ -149,3 +150,22 @@ abbrev pub with_delegates : List (List ℕ × CellNo) → List InstanceNames →
 with_delegates names [] = []
 with_delegates names (s ∷ rest) =
     record { unit = s.unit; root = s.root; enclosing = s.enclosing; ids = s.ids; names = names; members = s.members } ∷ rest
+
+-- ---- the names of a unit that belong to no object
+
+abbrev script_made : List ℕ × ℕ → List ℕ × Found
+script_made x = (x.0, finds.Script (unit_no (x.1)))
+
+abbrev function_made : ℕ → List ℕ × ℕ → List ℕ × Found
+function_made u f = (f.0, finds.Body (record { unit = unit_no u; at = f.1 }) (object_no 0))
+
+-- they stand in an instance of their own, which has no object of a document
+abbrev pub names_of_unit : ℕ → UnitRows → InstanceNames
+names_of_unit u rows = record {
+  unit = unit_no u;
+  root = object_no 0;
+  enclosing = None;
+  ids = [];
+  names = [];
+  members = record { object = object_no 0; names = map (function_made u) rows.functions ++ map script_made rows.scripts } ∷ [];
+}

@@ -23,7 +23,7 @@ abbrev pub AllRows : Type 0
 AllRows = List UnitRows
 
 abbrev no_rows : UnitRows
-no_rows = record { objects = []; components = []; bodies = []; scripts = []; functions = [] }
+no_rows = record { objects = []; components = []; bodies = []; bindings = []; scripts = []; functions = [] }
 
 abbrev pub rows_at : AllRows → ℕ → UnitRows
 rows_at units u = unwrap_or (slice_get units u) no_rows

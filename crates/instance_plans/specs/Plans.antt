@@ -53,7 +53,7 @@ fault_of_name (Some r) = elim (r.finds) as (λ _. Option FieldFault) [
 ]
 
 -- the names of an object as its document sees it
-abbrev names_of_row : AllRows → ObjectRow → List NameRow
+abbrev pub names_of_row : AllRows → ObjectRow → List NameRow
 names_of_row units r =
     rows_of_type (flat_map names_of_type (lineage (builtin_of units r.of_type))) ++
     flat_map (λ u. (row_at units u 0).names) (documents_of units r.of_type) ++ r.names

@@ -7,3 +7,4 @@ pub mod Looking
 pub mod Calling
 pub mod Assigning
 pub mod Eval
+pub mod Resuming

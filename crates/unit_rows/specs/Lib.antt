@@ -1,4 +1,5 @@
 pub mod Rows
+pub mod Bindings
 pub mod Bodies
 pub mod Given
 pub mod NamesOfObjects

@@ -40,9 +40,9 @@ abbrev Ends : Type 0
 Ends = ℕ → ℕ → List Units → PathEnd
 
 -- a signal behind a cell is that of its change, another one is the own signal of a number
-abbrev signal_row : Units → ℕ → Option ℕ → NameRow
-signal_row name n (Some place) = name_row name (finds_signal (change_of place))
-signal_row name n None = name_row name (finds_signal (own_signal n))
+abbrev signal_row : Units → ℕ → List Units → Option ℕ → NameRow
+signal_row name n parameters (Some place) = name_row name (finds_signal (change_of place) parameters)
+signal_row name n parameters None = name_row name (finds_signal (own_signal n) parameters)
 
 abbrev next_signal : ℕ → Option ℕ → ℕ
 next_signal n (Some place) = n
@@ -53,7 +53,7 @@ abbrev rows_of_names : (Place → ℕ) → Ends → ℕ → Option ℕ → List 
 rows_of_names body ends n cell [] = []
 rows_of_names body ends n cell (x ∷ rest) = elim (x.what) as (λ _. List NameRow) [
   | a_cell place k a ↦ name_row x.name (finds_cell place a) ∷ rows_of_names body ends n (Some place) rest
-  | a_signal_of parameters ↦ signal_row x.name n cell ∷ rows_of_names body ends (next_signal n cell) None rest
+  | a_signal_of parameters ↦ signal_row x.name n parameters cell ∷ rows_of_names body ends (next_signal n cell) None rest
   | a_function_of d o f ↦ name_row x.name (finds_function (body x.at)) ∷ rows_of_names body ends n None rest
   | a_method ↦ name_row x.name finds_method ∷ rows_of_names body ends n None rest
   | an_alias_of d o target ↦ map (name_row x.name) (finds_by_end (ends d o target)) ++ rows_of_names body ends n None rest
@@ -75,7 +75,7 @@ is_own (own_signal n) = true
 is_own _ = false
 
 abbrev is_own_signal : NameRow → Bool
-is_own_signal r = elim (r.finds) as (λ _. Bool) [ finds_signal s ↦ is_own s | _ ↦ false ]
+is_own_signal r = elim (r.finds) as (λ _. Bool) [ finds_signal s parameters ↦ is_own s | _ ↦ false ]
 
 -- how many own signals an object's type has
 abbrev signals_of_type : Program → ℕ → ℕ → ℕ
@@ -107,7 +107,7 @@ handler_row body s = record { signal = s; body = body }
 
 abbrev signal_under : Units → NameRow → Option SignalRef
 signal_under handler r = elim (r.finds) as (λ _. Option SignalRef) [
-  | finds_signal s ↦ if bytes_eq (handler_of r.name) handler then Some s else None
+  | finds_signal s parameters ↦ if bytes_eq (handler_of r.name) handler then Some s else None
   | _ ↦ None
 ]
 

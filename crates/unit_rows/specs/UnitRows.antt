@@ -2,7 +2,7 @@
 use Rattle.std.specs.Prelude.{ℕ, suc, Bool, true, false, not, ◌&&◌, ◌||◌, nat_eq, if◌then◌else◌, List, [], ◌∷◌, ◌++◌, map, reverse, codes, Option, Some, None}
 use Rattle.std.specs.Option.{option_map}
 use Rattle.std.specs.List.{flat_map, filter, filter_map}
-use Rattle.qml_syntax.specs.Tree.{Units, Function, function, Import, import_module, import_text, TypeName, own_type, type_of}
+use Rattle.qml_syntax.specs.Tree.{Units, Expr, Stmts, expr, auto, Function, function, Import, import_module, import_text, TypeName, own_type, type_of}
 use Rattle.qml_value.specs.declared.value.Value.{Value}
 use Rattle.qml_types.specs.declared.kind.TypeNo.TheVariants as no
 use Rattle.program_names.specs.Paths.{joined_to, directory_of}
@@ -15,8 +15,9 @@ use Rattle.program_names.specs.Layers.{is_type, access_of, DefaultProperty, to_c
 use Rattle.program_names.specs.Components.{IsRoot, Roots, is_root_at, owner, root_of, enclosing, Id, ids_in}
 use Rattle.program_names.specs.PathMeanings.{PathMeaning, children_of}
 use Rattle.program_names.specs.ComponentRoots.{meaning_given}
-use Rattle.unit_rows.specs.Rows.{CellRow, ObjectRow, ComponentRow, UnitRows}
-use Rattle.unit_rows.specs.Bodies.{NumberedMember, numbered, of_object, bodies_of}
+use Rattle.unit_rows.specs.Rows.{CellRow, ObjectRow, ComponentRow, of_statement, of_statements, UnitRows}
+use Rattle.unit_rows.specs.Bindings.{BindingFunction, in_all}
+use Rattle.unit_rows.specs.Bodies.{NumberedMember, numbered, of_object, bodies_of, places_from, bindings_of}
 use Rattle.unit_rows.specs.Given.{child_of, values_of, changes_of}
 use Rattle.unit_rows.specs.NamesOfObjects.{own_rows, handlers_of}
 
@@ -153,6 +154,7 @@ rows_of_unit p roots d =
       objects = map (object_row p roots d all) (objects_in p d);
       components = map (component_row p roots d) (filter (λ o. nat_eq (root_of p roots d o) o) (objects_in p d));
       bodies = bodies_of p d;
+      bindings = bindings_of p d;
       scripts = reverse (filter_map (script_row p d) (unit_at p d).imports);
       functions = reverse (functions_from 0 (unit_at p d).functions);
     }
@@ -164,3 +166,19 @@ rows_from p roots n (u ∷ rest) = rows_of_unit p roots n ∷ rows_from p roots 
 -- those of all documents and scripts of a program
 abbrev pub rows_of_program : Program → Roots → List UnitRows
 rows_of_program p roots = rows_from p roots 0 p
+
+-- ---- lines of a script: a unit of its own, with one body and the functions of its `Qt.binding`s
+
+abbrev pub rows_of_line : Stmts → UnitRows
+rows_of_line ss = record {
+  objects = [];
+  components = [];
+  bodies = of_statements ss ∷ map (λ (b : BindingFunction). of_statements b.statements) (in_all ss);
+  bindings = places_from 1 (in_all ss);
+  scripts = [];
+  functions = [];
+}
+
+-- that of the path of a `print` line
+abbrev pub rows_of_path : Expr → UnitRows
+rows_of_path e = record { objects = []; components = []; bodies = of_statement (expr e auto) [] ∷ []; bindings = []; scripts = []; functions = [] }

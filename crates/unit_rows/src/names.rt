@@ -1,5 +1,6 @@
 //! Names of objects, and handlers.
 
+use crate::row_list::Rows;
 use crate::way::Way;
 use qml_text::Text;
 use qml_types::{Access, PropKind};
@@ -31,7 +32,8 @@ pub struct HandlerRow {
 pub enum NameFinds {
     /// The object's cell of a place.
     Cell(u32, Access),
-    Signal(SignalRef),
+    /// A signal, with the names of its parameters.
+    Signal(SignalRef, Rows<Text>),
     /// A function, by its body.
     Function(u32),
     Method,

@@ -3,6 +3,7 @@
 use crate::given::{ChangeRow, ValueRow};
 use crate::names::{CellRow, HandlerRow, NameRow};
 use crate::row_list::Rows;
+use qml_base::Place;
 use qml_syntax::Tree;
 use qml_text::Text;
 use qml_types::TypeRef;
@@ -49,6 +50,8 @@ pub enum BodyRow {
     /// A statement, with a handler's parameters.
     Statement { at: u32, parameters: Rows<Text> },
     Function { at: u32 },
+    /// The statements of the function of a `Qt.binding`, or of a line of a script.
+    Statements { at: u32 },
 }
 
 /// What is kept of a loaded document or script.
@@ -59,6 +62,8 @@ pub struct Unit {
     /// The tree of the document or script.
     pub tree: Tree,
     pub bodies: Rows<BodyRow>,
+    /// The places of the `Qt.binding`s, with the bodies of their functions.
+    pub bindings: Rows<(Place, u32)>,
     /// The qualifiers of its scripts; the first that is found counts.
     pub scripts: Rows<(Text, u32)>,
     /// A script's functions with their bodies; likewise.

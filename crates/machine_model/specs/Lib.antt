@@ -1,0 +1,14 @@
+pub mod Texts
+pub mod State
+pub mod Acts
+pub mod Settling
+pub mod Showing
+pub mod Dispatch
+pub mod Emission
+pub mod Bodies
+pub mod Making
+pub mod Reactions
+pub mod Levels
+pub mod Lines
+pub mod Runs
+pub mod Keeping

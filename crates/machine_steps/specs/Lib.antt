@@ -1,0 +1,4 @@
+pub mod Giving
+pub mod Settles
+pub mod Writing
+pub mod Telling
