@@ -5,9 +5,11 @@
 #![tactic(auto)]
 
 mod content;
+mod laws;
 mod reading;
 #[cfg(test)]
 mod tests;
 
 pub use content::{Content, content_of};
+pub use laws::one_source;
 pub use reading::read_content;
