@@ -117,24 +117,24 @@ put_alike keys seen k r alike named owned name owner =
 
 -- one row
 one_name : (why : LoadCause) (seen : List NameRow) (r : NameRow) (rest : List NameRow) (kept kept' x : Option Fault)
-    → kept' ≡ first_from kept (fault_if (list_any (same_name r) seen) r.at why) → first_from kept (repeated why seen (r ∷ rest)) ≡ x
+    → kept' ≡ first_from kept (fault_if (list_any (same_name r) seen || r.taken) r.at why) → first_from kept (repeated why seen (r ∷ rest)) ≡ x
     → first_from kept' (repeated why (r ∷ seen) rest) ≡ x
 one_name why seen r rest kept kept' x e all =
     ap (λ k. first_from k (repeated why (r ∷ seen) rest)) e ∙
-    sym (first_from-append kept (fault_if (list_any (same_name r) seen) r.at why) (repeated why (r ∷ seen) rest)) ∙ all
+    sym (first_from-append kept (fault_if (list_any (same_name r) seen || r.taken) r.at why) (repeated why (r ∷ seen) rest)) ∙ all
 
 twice_not : (b : Bool) → not (not b) ≡ b
 twice_not true = refl
 twice_not false = refl
 
 pub next_row : (why : LoadCause) (rows : List NameRow) (i : ℕ) (r : NameRow) (seen : List NameRow) (kept kept' x : Option Fault) (fresh : Bool)
-    → i < length rows → r ≡ slice_index_or rows i r → fresh ≡ not (list_any (same_name r) seen) → kept' ≡ first_from kept (fault_if (not fresh) r.at why)
+    → i < length rows → r ≡ slice_index_or rows i r → fresh ≡ not (list_any (same_name r) seen) → kept' ≡ first_from kept (fault_if (not fresh || r.taken) r.at why)
     → first_from kept (repeated why seen (drop i rows)) ≡ x → first_from kept' (repeated why (r ∷ seen) (drop (i + 1) rows)) ≡ x
 next_row why rows i r seen kept kept' x fresh below is new told all =
     let split : drop i rows ≡ r ∷ drop (suc i) rows = drop-cons rows i r below ∙ ap (λ y. y ∷ drop (suc i) rows) (sym is) in
     let behind : suc i ≡ i + 1 = omega arith in
-    let once : kept' ≡ first_from kept (fault_if (list_any (same_name r) seen) r.at why) =
-    told ∙ ap (λ b. first_from kept (fault_if b r.at why)) (ap not new ∙ twice_not (list_any (same_name r) seen)) in
+    let once : kept' ≡ first_from kept (fault_if (list_any (same_name r) seen || r.taken) r.at why) =
+    told ∙ ap (λ b. first_from kept (fault_if (b || r.taken) r.at why)) (ap not new ∙ twice_not (list_any (same_name r) seen)) in
     subst (λ j. first_from kept' (repeated why (r ∷ seen) (drop j rows)) ≡ x) behind
     (one_name why seen r (drop (suc i) rows) kept kept' x once (subst (λ some. first_from kept (repeated why seen some) ≡ x) split all))
 
@@ -156,5 +156,6 @@ seen_ids p roots d i (j ∷ seen) = ap (λ b. same_id p roots d i j || b) (seen_
 pub ids_alike : (p : Program) (roots : Roots) (d : ℕ) (seen ids : List Id) → repeated cause.DuplicateId (map (id_row p roots d) seen) (map (id_row p roots d) ids) ≡ ids_twice p roots d seen ids
 ids_alike p roots d seen [] = refl
 ids_alike p roots d seen (i ∷ ids) =
-    ap (λ b. fault_if b i.at cause.DuplicateId ++ repeated cause.DuplicateId (map (id_row p roots d) (i ∷ seen)) (map (id_row p roots d) ids)) (seen_ids p roots d i seen) ∙
+    ap (λ b. fault_if b i.at cause.DuplicateId ++ repeated cause.DuplicateId (map (id_row p roots d) (i ∷ seen)) (map (id_row p roots d) ids))
+    (or_nothing (list_any (same_name (id_row p roots d i)) (map (id_row p roots d) seen)) ∙ seen_ids p roots d i seen) ∙
     ap (λ faults. fault_if (list_any (same_id p roots d i) seen) i.at cause.DuplicateId ++ faults) (ids_alike p roots d (i ∷ seen) ids)

@@ -1,14 +1,17 @@
 -- The rows that the searches go over, and the faults that they give.
-use Rattle.std.specs.Prelude.{ℕ, suc, Bool, true, ◌&&◌, not, nat_eq, List, [], ◌∷◌, ◌++◌, map}
+use Rattle.std.specs.Prelude.{ℕ, suc, Bool, true, false, ◌&&◌, ◌||◌, not, nat_eq, if◌then◌else◌, List, [], ◌∷◌, ◌++◌, map}
 use Rattle.std.specs.Str.{bytes_eq}
 use Rattle.std.specs.List.{flat_map, list_any}
 use Rattle.qml_base.specs.declared.load_cause.LoadCause.{LoadCause}
 use Rattle.qml_base.specs.declared.load_cause.LoadCause.TheVariants as cause
 use Rattle.qml_base.specs.declared.numbers.Place.{Place}
+use Rattle.qml_syntax.specs.Tree.{Units}
+use Rattle.qml_types.specs.declared.kind.TypeNo.TheVariants as no
 use Rattle.qml_types.specs.declared.kind.Access.TheVariants.{Literal, ReadOnly}
-use Rattle.program_names.specs.Written.{WrittenObject, WrittenMember, a_value, a_child}
+use Rattle.program_names.specs.Names.{is_in}
+use Rattle.program_names.specs.Written.{WrittenObject, WrittenMember, an_id, a_value, a_child}
 use Rattle.program_names.specs.Loaded.{Program, unit_at}
-use Rattle.program_names.specs.Layers.{DefaultProperty, to_property, default_of}
+use Rattle.program_names.specs.Layers.{Named, type_names, own_names, is_type, DefaultProperty, to_property, default_of}
 use Rattle.program_names.specs.PathMeanings.{here, PathMeaning, a_property_of, an_object_of, meaning_of_path}
 use Rattle.program_names.specs.Components.{Roots, Id, ids_written, root_of}
 use Rattle.load_faults.specs.Faults.{Faults, fault_if, place_of_value, Purpose, for_role, by_path, purpose_of}
@@ -21,18 +24,59 @@ use Rattle.load_passes.specs.declared.values.ValueRow.{ValueRow}
 abbrev pub same_name : NameRow → NameRow → Bool
 same_name a b = bytes_eq a.name b.name && nat_eq a.owner b.owner
 
--- the names that are used again, over those that were seen
+-- the names that are used again, over those that were seen, and those that are taken
 abbrev pub repeated : LoadCause → List NameRow → List NameRow → Faults
 repeated why seen [] = []
-repeated why seen (r ∷ rest) = fault_if (list_any (same_name r) seen) r.at why ++ repeated why (r ∷ seen) rest
+repeated why seen (r ∷ rest) = fault_if (list_any (same_name r) seen || r.taken) r.at why ++ repeated why (r ∷ seen) rest
 
 -- an id belongs to the component of its object
 abbrev pub id_row : Program → Roots → ℕ → Id → NameRow
-id_row p roots d i = record { name = i.name; owner = root_of p roots d i.object; at = i.at }
+id_row p roots d i = record { name = i.name; owner = root_of p roots d i.object; at = i.at; taken = false }
 
 -- the ids of a document
 abbrev pub id_faults : Program → Roots → ℕ → Faults
 id_faults p roots d = repeated cause.DuplicateId [] (map (id_row p roots d) (ids_written p d))
+
+-- ---- names that a single object may use once
+
+-- the names that an object uses, each with its place, as rows of the object
+abbrev pub owner_row : ℕ → Units × Place → NameRow
+owner_row o x = record { name = x.0; owner = o; at = x.1; taken = false }
+
+abbrev pub rows_of_objects : (ℕ → WrittenObject → List (Units × Place)) → ℕ → List WrittenObject → List NameRow
+rows_of_objects f o [] = []
+rows_of_objects f o (w ∷ rest) = map (owner_row o) (f o w) ++ rows_of_objects f (suc o) rest
+
+-- a name that an object declares, beside the names that it has by its type
+abbrev pub declared_row : Program → ℕ → ℕ → Named → NameRow
+declared_row p d o n =
+    record { name = n.name; owner = o; at = n.at; taken = is_in n.name (map (λ (x : Named). x.name) (type_names p d o)) }
+
+abbrev pub declared_rows_from : Program → ℕ → ℕ → List WrittenObject → List NameRow
+declared_rows_from p d o [] = []
+declared_rows_from p d o (w ∷ rest) = map (declared_row p d o) (own_names p d o) ++ declared_rows_from p d (suc o) rest
+
+abbrev pub declared_rows : Program → ℕ → List NameRow
+declared_rows p d = declared_rows_from p d 0 (unit_at p d).objects
+
+-- an id of the object, whatever its name, at the word `id`
+abbrev pub id_word : WrittenMember → List (Units × Place)
+id_word (an_id word n at) = ([], word) ∷ []
+id_word _ = []
+
+abbrev pub second_id_rows : Program → ℕ → List NameRow
+second_id_rows p d = rows_of_objects (λ o w. flat_map id_word w.members) 0 (unit_at p d).objects
+
+-- a value of a role
+abbrev pub role_name : WrittenMember → List (Units × Place)
+role_name (a_value at (n ∷ []) v) = (n, at) ∷ []
+role_name _ = []
+
+abbrev pub roles_in : Program → ℕ → ℕ → WrittenObject → List (Units × Place)
+roles_in p d o w = if is_type p d o no.ListElement then flat_map role_name w.members else []
+
+abbrev pub role_rows : Program → ℕ → List NameRow
+role_rows p d = rows_of_objects (roles_in p d) 0 (unit_at p d).objects
 
 -- ---- values
 

@@ -10,6 +10,8 @@ mod tests;
 mod values;
 
 pub use best::Best;
-pub use laws::{ids_as_rows, values_as_rows};
+pub use laws::{
+    declared_names_as_rows, ids_as_rows, roles_as_rows, second_ids_as_rows, values_as_rows,
+};
 pub use repeated::{NameRow, tell_repeated};
 pub use values::{ValueRow, tell_values};

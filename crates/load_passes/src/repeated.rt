@@ -1,6 +1,6 @@
-//! Names that are used twice: ids in a component, declared names of an object, roles of a row.
+//! Names that are used twice: ids in a component, declared names of an object, ids of an object, roles of a row.
 
-ghost use Rattle.std.specs.Prelude.{◌≡◌, not, [], OnOk};
+ghost use Rattle.std.specs.Prelude.{◌≡◌, not, ◌||◌, [], OnOk};
 ghost use Rattle.load_faults.specs.Faults.{first_from, fault_if};
 ghost use Rattle.load_passes.specs.Rows.{repeated};
 
@@ -17,10 +17,12 @@ pub struct NameRow {
     pub name: Text,
     pub owner: usize,
     pub at: Place,
+    /// Whether it is taken already before these rows, as a name that an object has by its type.
+    pub taken: bool,
 }
 
-/// Tells, with this cause, each name that stands a second time for its owner among these rows, in their order. A set
-/// finds a name in constant time on average.
+/// Tells, with this cause, each name that is taken or that stands a second time for its owner among these rows, in their
+/// order. A set finds a name in constant time on average.
 pub fn tell_repeated(
     alloc: Global,
     rows: &[NameRow],
@@ -39,15 +41,15 @@ pub fn tell_repeated(
             Ok(added) => added,
             Err(_) => return Err(NoMemory),
         };
-        tell_unless(fresh, row.at, cause, best);
+        tell_again(fresh, row.taken, row.at, cause, best);
     }
     Ok(())
 }
 
-fn tell_unless(fresh: bool, at: Place, cause: LoadCause, best: &mut Best)
-    ensures { best.new.fault ≡ first_from best.old.fault (fault_if (not fresh) at cause) }
+fn tell_again(fresh: bool, taken: bool, at: Place, cause: LoadCause, best: &mut Best)
+    ensures { best.new.fault ≡ first_from best.old.fault (fault_if (not fresh || taken) at cause) }
 {
-    if !fresh {
+    if !fresh || taken {
         best.tell(Fault { at, cause });
     }
 }

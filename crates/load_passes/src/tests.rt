@@ -18,6 +18,7 @@ fn id(alloc: Global, name: &[u8], owner: usize, place: Place) -> Result<NameRow,
         name,
         owner,
         at: place,
+        taken: false,
     })
 }
 
