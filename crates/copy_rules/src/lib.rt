@@ -1,15 +1,12 @@
 //! Texts that copy a cell, for programs and tests that settle trees without documents. `Copies` evaluates a text of unit 0 to
 //! the value of the scope object's cell at the text's number, one of unit 1 to a throw, and any other to a number past the
-//! limit (`specs/Copying.antt`); `NoNames` knows no name and no type. It is no part of the product.
+//! limit (`specs/Copying.antt`). It is no part of the product.
 #![tactic(auto)]
 
 use evaluation::{Evaluated, Rules, View};
-use qml_base::{Cause, CellNo, ExprNo, Found, Home, ObjNo, Steps};
-use qml_text::Text;
-use qml_types::TypeRef;
+use qml_base::{Cause, CellNo, ExprNo, Home, Steps};
 use std::alloc::Global;
 use std::sync::ledger::Ledger;
-use tree_model::Lookup;
 use tree_settling::value_of;
 
 /// Evaluates texts that copy a cell.
@@ -44,33 +41,5 @@ impl<L: Ledger> Rules<L> for Copies {
             1 => Evaluated::Threw(Cause::Name),
             _ => Evaluated::Past,
         }
-    }
-}
-
-/// Knows no name and no type.
-#[derive(Drop)]
-pub struct NoNames;
-
-impl Lookup for NoNames {
-    ghost use Rattle.copy_rules.specs.Copying.{no_names, no_types};
-
-    ghost names = { λ _. no_names };
-
-    ghost types = { λ _. no_types };
-
-    fn resolve(&self, _home: Home, _name: &Text) -> Found {
-        Found::Nothing
-    }
-
-    fn member(&self, _object: ObjNo, _name: &Text) -> Found {
-        Found::Nothing
-    }
-
-    fn is_id(&self, _home: Home, _name: &Text) -> bool {
-        false
-    }
-
-    fn types_of(&self, _object: ObjNo) -> &[TypeRef] {
-        &[]
     }
 }

@@ -1,5 +1,5 @@
 -- What the calls leave of numbers and spares.
-use Rattle.std.proofs.Common.{◌≡◌, ◌∙◌, ap, sym, subst, refl, ℕ, zero, suc, ◌+◌, ◌<◌, ◌≤◌, ◌^◌, ◌⊎◌, inl, inr, add-one, List, [], ◌∷◌, ◌++◌, map, length, take, drop, slice_get, slice_set, arith}
+use Rattle.std.proofs.Common.{◌≡◌, ◌∙◌, ap, refl, ℕ, zero, suc, ◌+◌, ◌<◌, ◌≤◌, ◌^◌, ◌⊎◌, inl, inr, List, [], ◌∷◌, ◌++◌, map, length, take, drop, slice_get, slice_set, arith}
 use Rattle.std.specs.declared.option.Option.TheVariants.{None, Some}
 use Rattle.std.specs.declared.result.Result.{Result}
 use Rattle.std.specs.declared.result.Result.TheVariants.{Ok, Err}
@@ -25,16 +25,19 @@ use Rattle.tree_settling.specs.declared.settling.Changed.{Changed}
 use Rattle.tree_settling.specs.declared.settling.SettleFault.{SettleFault}
 use Rattle.tree_settling.specs.declared.settling.SettleFault.TheVariants.{Past, NoMemory}
 use Rattle.tree_settling.specs.Settles.{Settles}
+use Rattle.qml_base.specs.declared.numbers.ExprNo.{ExprNo}
+use Rattle.qml_base.specs.declared.names.Home.{Home}
+use Rattle.evaluation.specs.Ask.{Ask}
 use Rattle.live_tree.specs.Live.{Live, Knows}
 
 -- a tree that evaluates all bindings at each settling knows everything
-pub knows_all : (world : World) (live : Live) → Knows world live
+pub knows_all : (asks : ExprNo → Home → Ask) (live : Live) → Knows asks live
 unfolding Knows
-knows_all world live = tt
+knows_all asks live = tt
 
-pub knows_on_ok : (world : World) (live : Live) (result : Result Changed SettleFault) → OnOk result (Knows world live)
-knows_on_ok world live (Ok c) = knows_all world live
-knows_on_ok world live (Err e) = tt
+pub knows_on_ok : (asks : ExprNo → Home → Ask) (live : Live) (result : Result Changed SettleFault) → OnOk result (Knows asks live)
+knows_on_ok asks live (Ok c) = knows_all asks live
+knows_on_ok asks live (Err e) = tt
 
 taken_numbers : (read : Outcomes) (k : ℕ) (cells : List Cell) → numbers_of (taking_all read k cells) ≡ numbers_of cells
 taken_numbers read k [] = refl

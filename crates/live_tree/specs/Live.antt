@@ -1,11 +1,15 @@
 -- What contracts see of a live tree, and what its calls answer.
-use Rattle.std.specs.Prelude.{◌≡◌, ◌≢◌, ℕ, ◌+◌, ◌<◌, ◌^◌, ◌++◌, List, [], ◌∷◌, length, Some, Option, Result, Ok, Err, false, slice_get, slice_set}
+use Rattle.std.specs.Prelude.{◌≡◌, ◌≢◌, ℕ, ◌+◌, ◌<◌, ◌++◌, List, [], ◌∷◌, length, Some, Option, Result, Ok, Err, false, slice_get, slice_set}
 use Rattle.qml_base.specs.declared.numbers.ObjNo.{ObjNo}
 use Rattle.qml_base.specs.declared.numbers.CellNo.{CellNo}
 use Rattle.qml_value.specs.declared.value.Value.{Value}
 use Rattle.qml_value.specs.Kinds.{kind_of}
 use Rattle.qml_types.specs.declared.kind.TypeRef.{TypeRef}
+use Rattle.qml_base.specs.declared.numbers.ExprNo.{ExprNo}
+use Rattle.qml_base.specs.declared.names.Home.{Home}
+use Rattle.evaluation.specs.Ask.{Ask}
 use Rattle.evaluation.specs.declared.came.Came.TheVariants as came
+use Rattle.qml_scope.specs.Shapes.{Known, TellsOf, names_of, types_among}
 use Rattle.tree_model.specs.declared.cells.Cell.{Cell}
 use Rattle.tree_model.specs.declared.cells.NewCell.{NewCell}
 use Rattle.tree_model.specs.declared.cells.Content.{Content}
@@ -13,22 +17,27 @@ use Rattle.tree_model.specs.declared.cells.Content.TheVariants.{Plain}
 use Rattle.tree_model.specs.Converting.{convert_of}
 use Rattle.tree_model.specs.Rules.{World}
 use Rattle.tree_model.specs.Settling.{Tree, place_of}
-use Rattle.object_tree.specs.Trees.{Objects, IsFull}
+use Rattle.object_tree.specs.Trees.{IsFull}
 use Rattle.object_tree.specs.declared.tree.AddFault.{AddFault}
 use Rattle.object_tree.specs.declared.tree.AddFault.TheVariants as fault
 use Rattle.property_store.specs.Stores.{with_content, new_cells}
 use Rattle.live_tree.specs.declared.tree.WriteFault.{WriteFault}
 use Rattle.live_tree.specs.declared.tree.WriteFault.TheVariants as refused
 
--- the tree, and how many numbers were given to objects
+-- the tree, how many numbers were given to objects, and what is known of names and types
 pub record Live : Type 0 where
   pub tree : Tree
   pub given : ℕ
+  pub known : Known
 
--- what the tree keeps of its last settling agrees with what is around it; a tree that evaluates all bindings at each settling
+-- what texts ask for stands in the world of the tree's own names and types
+abbrev pub world_around : Live → (ExprNo → Home → Ask) → World
+world_around live asks = record { names = names_of live.known; types = types_among live.known.told; asks = asks }
+
+-- what the tree keeps of its last settling agrees with what texts ask; a tree that evaluates all bindings at each settling
 -- keeps nothing
-unfoldable pub Knows : World → Live → Type 0
-Knows world live = Unit {0}
+unfoldable pub Knows : (ExprNo → Home → Ask) → Live → Type 0
+Knows asks live = Unit {0}
 
 -- the cell is there
 abbrev pub HasCell : Tree → CellNo → Type 0
@@ -40,17 +49,20 @@ Replaces old c content new =
     (new.objects ≡ old.objects)
     × ((cell : Cell) → slice_get old.cells (place_of old.cells c) ≡ Some cell → new.cells ≡ slice_set old.cells (place_of old.cells c) (with_content cell content))
 
--- what an addition answers: the object and its cells stand behind the others, and nothing else is changed; or nothing is
+-- no object may be added
 abbrev pub IsFullTree : Live → Type 0
 IsFullTree live = IsFull (record { objects = live.tree.objects; given = live.given })
 
-abbrev pub Adds : Option ObjNo → Option ObjNo → List NewCell → Live → Result ObjNo AddFault → Live → Type 0
-Adds owner origin news old (Ok o) new =
+-- what an addition answers: the object and its cells stand behind the others, its types are told, and nothing else is changed;
+-- or nothing is
+abbrev pub Adds : Option ObjNo → Option ObjNo → List TypeRef → List NewCell → Live → Result ObjNo AddFault → Live → Type 0
+Adds owner origin types news old (Ok o) new =
     (o.0 ≡ old.given + 1) × (new.given ≡ old.given + 1) × (¬ (IsFullTree old))
     × (new.tree.objects ≡ old.tree.objects ++ record { number = o; owner = owner; origin = origin; condemned = false } ∷ [])
     × (new.tree.cells ≡ old.tree.cells ++ new_cells o 0 news)
-Adds owner origin news old (Err (fault.Full live)) new = (new ≡ old) × (live ≡ length old.tree.objects) × IsFullTree old
-Adds owner origin news old (Err fault.NoMemory) new = (new ≡ old) × (¬ (IsFullTree old))
+    × TellsOf o types old.known new.known
+Adds owner origin types news old (Err (fault.Full live)) new = (new ≡ old) × (live ≡ length old.tree.objects) × IsFullTree old
+Adds owner origin types news old (Err fault.NoMemory) new = (new ≡ old) × (¬ (IsFullTree old))
 
 -- what a write answers: the content is the value as the cell's kind takes it; or the kind takes no such value
 abbrev pub Writes : (ObjNo → List TypeRef) → CellNo → Value → Tree → Result (Unit {0}) WriteFault → Tree → Type 0

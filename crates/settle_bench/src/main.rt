@@ -5,7 +5,7 @@
 ghost use Rattle.std.specs.Prelude.{◌≡◌, ◌<◌};
 ghost use Rattle.object_tree.specs.Trees.{MayOwn};
 
-use copy_rules::{Copies, NoNames};
+use copy_rules::Copies;
 use live_tree::LiveTree;
 use qml_base::{CellNo, ExprNo, Home, ObjNo, Steps, UnitNo};
 use qml_types::PropKind;
@@ -14,8 +14,8 @@ use std::alloc::{AllocError, Global};
 use std::marker::Brand;
 use std::sync::ledger::{Blank, Ledger};
 use std::time::CpuClock;
-use std::{env, io};
-use tree_model::{Binding, Content, NewCell, Rule};
+use std::{env, io, mem};
+use tree_model::{Binding, Cell, Content, NewCell, Rule};
 
 /// What the cells of an object copy: their parent in a binary tree, the next one and the last one none, or the next one in a
 /// circle.
@@ -88,7 +88,7 @@ fn tell(rt: &HostRuntime, what: &str, answer: usize, begun: u64, timed: bool) ->
 /// How many cells and reports one settling tells.
 #[tactic(auto, using(live_tree::proofs::LiveLemmas::knows_all))]
 fn settled<L: Ledger>(alloc: Global, tree: &mut LiveTree, steps: &mut Steps<L>) -> usize {
-    match tree.settle(alloc, &mut Copies, &NoNames, steps) {
+    match tree.settle(alloc, &mut Copies, steps) {
         Ok(told) => told.cells.len().saturating_add(told.reports.len()),
         Err(_) => 0,
     }
@@ -101,9 +101,12 @@ fn write(alloc: Global, tree: &mut LiveTree, n: u32) {
         place: 0,
     };
     if tree.has_cell(first) {
-        let _ = tree.write(alloc, &NoNames, first, Value::Num(Num::small(n)));
+        let _ = tree.write(alloc, first, Value::Num(Num::small(n)));
     }
 }
+
+/// The bytes of a cell beside the three values that it has room for.
+const BESIDE_VALUES: usize = mem::size_of::<Cell>() - 3 * mem::size_of::<Value>();
 
 /// Settles one object's cells, and again after each of so many writes of the first.
 fn settle<L: Ledger>(
@@ -119,7 +122,7 @@ fn settle<L: Ledger>(
     let Ok(cells) = cells(rt.alloc(), shape, count) else {
         return println!(rt; "no memory");
     };
-    if tree.add(None, None, cells).is_err() {
+    if tree.add(None, None, Vec::new(rt.alloc()), cells).is_err() {
         return println!(rt; "no memory");
     }
     let begun = micros(rt)?;
@@ -148,7 +151,10 @@ fn deep(alloc: Global, count: u32) -> LiveTree {
     let mut tree = LiveTree::new(alloc);
     for i in 0..count {
         let owner = owner(&tree, ObjNo(i));
-        if tree.add(owner, None, Vec::new(alloc)).is_err() {
+        if tree
+            .add(owner, None, Vec::new(alloc), Vec::new(alloc))
+            .is_err()
+        {
             return tree;
         }
     }
@@ -166,9 +172,11 @@ fn condemn<L: Ledger>(
     let begun = micros(rt)?;
     let mut tree = deep(rt.alloc(), count);
     tell(rt, "added", tree.live() as usize, begun, timed)?;
-    let full = tree.add(None, None, Vec::new(rt.alloc())).is_err();
+    let full = tree
+        .add(None, None, Vec::new(rt.alloc()), Vec::new(rt.alloc()))
+        .is_err();
     let begun = micros(rt)?;
-    let Ok(_) = tree.settle(rt.alloc(), &mut Copies, &NoNames, steps) else {
+    let Ok(_) = tree.settle(rt.alloc(), &mut Copies, steps) else {
         return println!(rt; "no memory");
     };
     tell(rt, "full", usize::from(full), begun, timed)?;
@@ -210,6 +218,10 @@ fn measure<L: Ledger>(
     settle(rt, "tree", Shape::Tree, count, 16, &mut steps, timed)?;
     settle(rt, "down", Shape::Down, count, 0, &mut steps, timed)?;
     settle(rt, "circle", Shape::Circle, count, 0, &mut steps, timed)?;
+    if timed {
+        let (cell, value) = (mem::size_of::<Cell>(), mem::size_of::<Value>());
+        println!(rt; "a cell has {cell} bytes, {BESIDE_VALUES} beside 3 values of {value}")?;
+    }
     condemn(rt, objects, &mut steps, timed)
 }
 

@@ -4,7 +4,7 @@ ghost use Rattle.std.specs.Prelude.{◌≡◌, ◌<◌};
 ghost use Rattle.object_tree.specs.Trees.{MayOwn};
 
 use crate::tests::{bound, cell, held, new_cell, number};
-use copy_rules::{Copies, NoNames};
+use copy_rules::Copies;
 use live_tree::{AddFault, LiveTree};
 use object_tree::Tree;
 use qml_base::{ObjNo, Steps};
@@ -43,13 +43,13 @@ fn rows_settle<L: Ledger>(rt: &impl Abort, alloc: Global, blank: Blank) -> Resul
 {
     let mut steps = Steps::<L>::new(blank);
     let mut tree = LiveTree::new(alloc);
-    tree.add(None, None, row(alloc, false)?)?;
-    let told = tree.settle(alloc, &mut Copies, &NoNames, &mut steps)?;
+    tree.add(None, None, Vec::new(alloc), row(alloc, false)?)?;
+    let told = tree.settle(alloc, &mut Copies, &mut steps)?;
     assert_eq!(rt; told.cells.len(), CELLS as usize);
     assert_eq!(rt; held(&tree, cell(1, 0)), Some(7));
     let mut circle = LiveTree::new(alloc);
-    circle.add(None, None, row(alloc, true)?)?;
-    let told = circle.settle(alloc, &mut Copies, &NoNames, &mut steps)?;
+    circle.add(None, None, Vec::new(alloc), row(alloc, true)?)?;
+    let told = circle.settle(alloc, &mut Copies, &mut steps)?;
     assert_eq!(rt; told.cells.len(), 0);
     assert_eq!(rt; told.reports.len(), CELLS as usize);
     Ok(())

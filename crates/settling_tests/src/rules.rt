@@ -3,7 +3,7 @@
 ghost use Rattle.std.specs.Prelude.{◌≡◌, ◌<◌};
 
 use crate::tests::{cell, held, new_cell, number};
-use copy_rules::{Copies, NoNames};
+use copy_rules::Copies;
 use live_tree::LiveTree;
 use qml_base::{CellNo, ObjNo, Steps};
 use qml_types::PropKind;
@@ -68,9 +68,19 @@ fn settles<L: Ledger>(rt: &impl Abort, alloc: Global, blank: Blank) -> Result<()
 {
     let mut steps = Steps::<L>::new(blank);
     let mut tree = LiveTree::new(alloc);
-    tree.add(None, None, item(alloc, ObjNo(1), None, false)?)?;
-    tree.add(None, None, item(alloc, ObjNo(2), Some(ObjNo(1)), true)?)?;
-    tree.settle(alloc, &mut Copies, &NoNames, &mut steps)?;
+    tree.add(
+        None,
+        None,
+        Vec::new(alloc),
+        item(alloc, ObjNo(1), None, false)?,
+    )?;
+    tree.add(
+        None,
+        None,
+        Vec::new(alloc),
+        item(alloc, ObjNo(2), Some(ObjNo(1)), true)?,
+    )?;
+    tree.settle(alloc, &mut Copies, &mut steps)?;
     assert_eq!(rt; truth(&tree, cell(1, 7)), Some(false));
     assert_eq!(rt; truth(&tree, cell(1, 9)), Some(true));
     assert_eq!(rt; truth(&tree, cell(2, 7)), Some(false));

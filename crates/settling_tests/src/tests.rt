@@ -2,10 +2,11 @@
 
 ghost use Rattle.std.specs.Prelude.{◌≡◌, ◌<◌};
 
-use copy_rules::{Copies, NoNames};
+use copy_rules::Copies;
 use live_tree::{LiveTree, SettleFault};
 use qml_base::{Cause, CellNo, ExprNo, Home, ObjNo, Steps, UnitNo};
-use qml_types::PropKind;
+use qml_scope::{Members, Named, Shape};
+use qml_types::{PropKind, TypeNo, TypeRef};
 use qml_value::{Num, Value};
 use std::alloc::Global;
 use std::marker::Brand;
@@ -70,7 +71,7 @@ fn example(alloc: Global) -> Result<LiveTree, Fail> {
     cells.push(new_cell(PropKind::Int, bound(0, 3, 1)))?;
     cells.push(new_cell(PropKind::Int, bound(1, 0, 1)))?;
     let mut tree = LiveTree::new(alloc);
-    tree.add(None, None, cells)?;
+    tree.add(None, None, Vec::new(alloc), cells)?;
     Ok(tree)
 }
 
@@ -82,7 +83,7 @@ fn settles<L: Ledger>(rt: &impl Abort, alloc: Global, blank: Blank) -> Result<()
 {
     let mut steps = Steps::<L>::new(blank);
     let mut tree = example(alloc)?;
-    let told = tree.settle(alloc, &mut Copies, &NoNames, &mut steps)?;
+    let told = tree.settle(alloc, &mut Copies, &mut steps)?;
     assert_eq!(rt;
         told.cells.as_slice(),
         [cell(1, 0), cell(1, 1), cell(1, 2)].as_slice()
@@ -105,7 +106,7 @@ fn assign(alloc: Global, tree: &mut LiveTree, c: CellNo, v: Value) -> bool {
     if !tree.has_cell(c) {
         return false;
     }
-    tree.write(alloc, &NoNames, c, v).is_ok()
+    tree.write(alloc, c, v).is_ok()
 }
 
 /// Takes the cell's content out and puts it in again.
@@ -129,15 +130,15 @@ fn writes<L: Ledger>(rt: &impl Abort, alloc: Global, blank: Blank) -> Result<(),
 {
     let mut steps = Steps::<L>::new(blank);
     let mut tree = example(alloc)?;
-    tree.settle(alloc, &mut Copies, &NoNames, &mut steps)?;
+    tree.settle(alloc, &mut Copies, &mut steps)?;
     assert_eq!(rt; assign(alloc, &mut tree, cell(1, 0), number(8)), true);
-    let told = tree.settle(alloc, &mut Copies, &NoNames, &mut steps)?;
+    let told = tree.settle(alloc, &mut Copies, &mut steps)?;
     assert_eq!(rt; told.cells.len(), 3);
     assert_eq!(rt; told.reports.len(), 0);
     assert_eq!(rt; held(&tree, cell(1, 2)), Some(8));
     assert_eq!(rt; assign(alloc, &mut tree, cell(1, 0), Value::Null), false);
     assert_eq!(rt; put_back(&mut tree, cell(1, 0)), true);
-    let told = tree.settle(alloc, &mut Copies, &NoNames, &mut steps)?;
+    let told = tree.settle(alloc, &mut Copies, &mut steps)?;
     assert_eq!(rt; told.cells.len(), 0);
     Ok(())
 }
@@ -154,23 +155,49 @@ fn stops_past_limit<L: Ledger>(rt: &impl Abort, alloc: Global, blank: Blank) -> 
     cells.push(new_cell(PropKind::Int, bound(0, 2, 1)))?;
     cells.push(new_cell(PropKind::Int, bound(2, 0, 1)))?;
     let mut tree = LiveTree::new(alloc);
-    tree.add(None, None, cells)?;
-    let fault = tree.settle(alloc, &mut Copies, &NoNames, &mut steps).err();
+    tree.add(None, None, Vec::new(alloc), cells)?;
+    let fault = tree.settle(alloc, &mut Copies, &mut steps).err();
     assert_eq!(rt; fault, Some(SettleFault::Past { cell: cell(1, 1) }));
     assert_eq!(rt; held(&tree, cell(1, 0)), None);
     Ok(())
 }
 
-/// An object whose first cell names a second object, and whose second cell is bound by that one's text.
+/// The types of a QtObject.
+fn types(alloc: Global) -> Result<Vec<TypeRef>, Fail> {
+    let mut types = Vec::new(alloc);
+    types.push(TypeRef::Builtin(TypeNo::QtObject))?;
+    Ok(types)
+}
+
+/// An instance of this root, without names.
+fn shape(alloc: Global, root: ObjNo) -> Shape {
+    Shape {
+        unit: UnitNo(0),
+        root,
+        enclosing: None,
+        ids: Named::new(alloc),
+        names: Named::new(alloc),
+        members: Members::new(alloc),
+    }
+}
+
+/// An object whose first cell names a second object, the root of an instance, and whose second cell is bound by that one's text.
 fn with_reference(alloc: Global) -> Result<LiveTree, Fail> {
     let mut tree = LiveTree::new(alloc);
     let mut cells = Vec::new(alloc);
     cells.push(new_cell(PropKind::Var, Content::Plain(Value::Object(ObjNo(2)))))?;
     cells.push(new_cell(PropKind::Int, bound(0, 2, 2)))?;
     cells.push(new_cell(PropKind::Int, Content::Plain(number(5))))?;
-    tree.add(None, None, cells)?;
-    tree.add(None, None, Vec::new(alloc))?;
+    tree.add(None, None, Vec::new(alloc), cells)?;
+    let second = tree.add(None, None, types(alloc)?, Vec::new(alloc))?;
+    tree.add_shape(shape(alloc, second))?;
     Ok(tree)
+}
+
+/// How many instances there are, and how many types the second object has.
+fn told(tree: &LiveTree) -> (usize, usize) {
+    let shapes = tree.shapes();
+    (shapes.instances().len(), shapes.types_told(ObjNo(2)).len())
 }
 
 /// Binds the cell by a rule that is built in, and tells its kind.
@@ -193,13 +220,15 @@ fn purges<L: Ledger>(rt: &impl Abort, alloc: Global, blank: Blank) -> Result<(),
 {
     let mut steps = Steps::<L>::new(blank);
     let mut tree = with_reference(alloc)?;
-    tree.settle(alloc, &mut Copies, &NoNames, &mut steps)?;
+    tree.settle(alloc, &mut Copies, &mut steps)?;
     tree.condemn(ObjNo(2));
     assert_eq!(rt; tree.objects().doomed(), [ObjNo(2)].as_slice());
+    assert_eq!(rt; told(&tree), (1, 1));
     tree.remove_doomed();
+    assert_eq!(rt; told(&tree), (0, 0));
     assert_eq!(rt; tree.live(), 1);
     assert_eq!(rt; tree.given(), 2);
-    let told = tree.settle(alloc, &mut Copies, &NoNames, &mut steps)?;
+    let told = tree.settle(alloc, &mut Copies, &mut steps)?;
     assert_eq!(rt; told.cells.as_slice(), [cell(1, 0)].as_slice());
     assert_eq!(rt; held(&tree, cell(1, 1)), Some(5));
     assert_eq!(rt; rebind(&mut tree, cell(1, 1)), Some(PropKind::Int));

@@ -1,6 +1,5 @@
-use Rattle.std.proofs.Common.{◌≡◌, ◌<◌, ◌∙◌, ap, sym, length, slice_index_or, slice_set, length-set, add-one, arith}
-use Rattle.tree_model.specs.declared.cells.Cell.{Cell}
-use Rattle.tree_model.specs.Removing.{quiet, quiet_outcome}
+use Rattle.std.proofs.Common.{◌≡◌, ◌<◌, ◌∙◌, ap, length, slice_index_or, slice_set, length-set, add-one, arith}
+use Rattle.tree_model.specs.Removing.{quiet}
 use Rattle.property_store.specs.Stores.{with_outcome}
 use Rattle.property_store.proofs.KeptLemmas.{read_there}
 use Rattle.live_tree.proofs.LiveLemmas.{mapped_next}

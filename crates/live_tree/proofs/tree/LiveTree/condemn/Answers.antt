@@ -11,4 +11,4 @@ pub returns-clause-spared : goal.returns-clause-spared
 returns-clause-spared c = λ all. rw c.quiet_all.ensures (quiet_spared c.condemn.new.self.objects c.self.inside.store (subst (λ t. AllSpared t.tree.cells) (sym c.self.view_is) all))
 
 pub returns-clause-knows : goal.returns-clause-knows
-returns-clause-knows c = λ world h. knows_all world _
+returns-clause-knows c = λ asks h. knows_all asks _

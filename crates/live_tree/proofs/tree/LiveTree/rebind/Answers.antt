@@ -1,4 +1,4 @@
-use Rattle.std.proofs.Common.{◌≡◌, ◌<◌, sym, subst, length}
+use Rattle.std.proofs.Common.{◌<◌, sym, subst, length}
 use Rattle.tree_model.specs.Settling.{place_of}
 use Rattle.live_tree.specs.Live.{HasCell}
 use Rattle.live_tree.proofs.LiveLemmas.{knows_all, replaced_below}
@@ -11,4 +11,4 @@ invariant_of-self c =
     replaced_below c.self.inside.store c.bind.new.self c.args.c (Bound c.args.b) _ inside c.bind.ensures.new c.self.invariant
 
 pub returns-clause-knows : goal.returns-clause-knows
-returns-clause-knows c = λ world h. knows_all world _
+returns-clause-knows c = λ asks h. knows_all asks _

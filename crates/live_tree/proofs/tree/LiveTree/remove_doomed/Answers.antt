@@ -1,4 +1,3 @@
-use Rattle.tree_model.specs.Removing.{doomed_of}
 use Rattle.live_tree.proofs.LiveLemmas.{knows_all, scrubbed_below, scrubbed_spared}
 use Rattle.live_tree.proofs.tree.LiveTree.remove_doomed.Goals as goal
 
@@ -9,4 +8,4 @@ pub returns-clause-spared : goal.returns-clause-spared
 returns-clause-spared c = rw c.scrub.ensures (scrubbed_spared c.doomed.result.now c.self.inside.store)
 
 pub returns-clause-knows : goal.returns-clause-knows
-returns-clause-knows c = λ world h. knows_all world _
+returns-clause-knows c = λ asks h. knows_all asks _

@@ -1,4 +1,4 @@
-use Rattle.std.proofs.Common.{◌≡◌, ◌<◌, sym, subst, length}
+use Rattle.std.proofs.Common.{◌<◌, sym, subst, length}
 use Rattle.tree_model.specs.Settling.{place_of}
 use Rattle.live_tree.specs.Live.{HasCell}
 use Rattle.live_tree.proofs.LiveLemmas.{knows_all, replaced_below}
@@ -12,4 +12,4 @@ invariant_of-self c =
     replaced_below c.self.inside.store c.take_content.new.self c.args.c (Plain Undefined) _ inside c.take_content.ensures.new c.self.invariant
 
 pub returns-clause-knows : goal.returns-clause-knows
-returns-clause-knows c = λ world h. knows_all world _
+returns-clause-knows c = λ asks h. knows_all asks _

@@ -1,4 +1,4 @@
-use Rattle.std.proofs.Common.{◌≡◌, ◌<◌, sym, subst, length}
+use Rattle.std.proofs.Common.{◌<◌, sym, subst, length}
 use Rattle.tree_model.specs.Settling.{place_of}
 use Rattle.live_tree.specs.Live.{HasCell}
 use Rattle.live_tree.proofs.LiveLemmas.{knows_all, replaced_below}
@@ -6,9 +6,9 @@ use Rattle.tree_model.specs.declared.cells.Content.TheVariants.{Plain}
 use Rattle.live_tree.proofs.tree.LiveTree.write.Goals as goal
 
 pub invariant_of-self : goal.invariant_of-self
-invariant_of-self g c =
+invariant_of-self c =
     let inside : place_of c.self.inside.store c.args.c < length c.self.inside.store = subst (λ t. HasCell t.tree c.args.c) (sym c.self.view_is) c.requires in
     replaced_below c.self.inside.store c.assign.new.self c.args.c (Plain c.in-Ok-Value.w) _ inside c.assign.ensures.new c.self.invariant
 
 pub returns-in-Ok-Value-clause-knows : goal.returns-in-Ok-Value-clause-knows
-returns-in-Ok-Value-clause-knows g c = λ world h. knows_all world _
+returns-in-Ok-Value-clause-knows c = λ asks h. knows_all asks _

@@ -1,0 +1,5 @@
+use Rattle.live_tree.proofs.LiveLemmas.{knows_all}
+use Rattle.live_tree.proofs.tree.LiveTree.add_shape.Goals as goal
+
+pub returns-clause-knows : goal.returns-clause-knows
+returns-clause-knows c = λ asks h. knows_all asks _
