@@ -55,6 +55,7 @@ fn document(alloc: Global, of_type: TypeRef) -> Result<Unit, Fail> {
         components,
         tree: tree(alloc)?,
         bodies: Rows::new(alloc),
+        bindings: Rows::new(alloc),
         scripts: Rows::new(alloc),
         functions: Rows::new(alloc),
     })
