@@ -17,18 +17,20 @@ use Rattle.program_names.specs.PathMeanings.{Way}
 use Rattle.unit_rows.specs.declared.unit.ObjectRow.{ObjectRow}
 use Rattle.unit_rows.specs.declared.unit.ComponentRow.{ComponentRow}
 use Rattle.unit_rows.specs.Rows.{UnitRows}
+pub use Rattle.instance_plans.specs.declared.planned.Planned.{Planned}
+pub use Rattle.instance_plans.specs.declared.planned.PlannedInstance.{PlannedInstance}
 
 -- the rows of all documents and scripts
 abbrev pub AllRows : Type 0
 AllRows = List UnitRows
 
-abbrev no_rows : UnitRows
+abbrev pub no_rows : UnitRows
 no_rows = record { objects = []; components = []; bodies = []; bindings = []; scripts = []; functions = [] }
 
 abbrev pub rows_at : AllRows → ℕ → UnitRows
 rows_at units u = unwrap_or (slice_get units u) no_rows
 
-abbrev no_object : ObjectRow
+abbrev pub no_object : ObjectRow
 no_object = record {
   shown = [];
   of_type = Builtin no.QtObject;
@@ -47,7 +49,7 @@ no_object = record {
 abbrev pub row_at : AllRows → ℕ → ℕ → ObjectRow
 row_at units u o = unwrap_or (slice_get (rows_at units u).objects o) no_object
 
-abbrev no_component : ComponentRow
+abbrev pub no_component : ComponentRow
 no_component = record { root = 0; enclosing = None; standing = []; ids = [] }
 
 -- the component of a document that has this root
@@ -56,7 +58,7 @@ component_at units u r = unwrap_or (find (λ (c : ComponentRow). nat_eq c.root r
 
 -- ---- types
 
-abbrev documents_within : ℕ → AllRows → TypeRef → List ℕ
+abbrev pub documents_within : ℕ → AllRows → TypeRef → List ℕ
 documents_within zero units t = []
 documents_within (suc n) units (Builtin t) = []
 documents_within (suc n) units (OfDocument u) = documents_within n units (row_at units u.0 0).of_type ++ u.0 ∷ []
@@ -65,7 +67,7 @@ documents_within (suc n) units (OfDocument u) = documents_within n units (row_at
 abbrev pub documents_of : AllRows → TypeRef → List ℕ
 documents_of units t = documents_within (suc (length units)) units t
 
-abbrev builtin_within : ℕ → AllRows → TypeRef → TypeNo
+abbrev pub builtin_within : ℕ → AllRows → TypeRef → TypeNo
 builtin_within zero units t = no.QtObject
 builtin_within (suc n) units (Builtin t) = t
 builtin_within (suc n) units (OfDocument u) = builtin_within n units (row_at units u.0 0).of_type
@@ -85,22 +87,6 @@ stands_on t base = list_any (same_type base) (lineage t)
 
 -- ---- the objects in document order
 
--- an object that is made, or the Component that is made around it
-pub record Planned : Type 0 where
-  pub number : ℕ
-  pub unit : ℕ
-  pub object : ℕ
-  pub is_around : Bool
-  pub owner : Option ℕ
-
--- an instance of a component of a document, with its objects as written and their numbers
-pub record PlannedInstance : Type 0 where
-  pub unit : ℕ
-  pub component : ℕ
-  pub root : ℕ
-  pub enclosing : Option ℕ
-  pub objects : List (ℕ × ℕ)
-
 -- the instances of types stand behind the one whose object is of that type
 pub record Plan : Type 0 where
   pub next : ℕ
@@ -117,18 +103,18 @@ pub record Going : Type 0 where
   pub plan : Plan
 
 -- what the documents of a type add for the object of a number
-abbrev Inner : Type 0
+abbrev pub Inner : Type 0
 Inner = TypeRef → ℕ → Plan → Plan
 
-abbrev with_planned : Planned → Plan → Plan
+abbrev pub with_planned : Planned → Plan → Plan
 with_planned x plan = record { next = suc plan.next; objects = plan.objects ++ x ∷ []; instances = plan.instances }
 
-abbrev inside : Inner → Bool → TypeRef → ℕ → Plan → Plan
+abbrev pub inside : Inner → Bool → TypeRef → ℕ → Plan → Plan
 inside inner true t n plan = plan
 inside inner false t n plan = inner t n plan
 
 -- an object takes the next number; a Component that is made around one stands for it
-abbrev placed : Inner → AllRows → ℕ → ℕ → Going → ℕ → Going
+abbrev pub placed : Inner → AllRows → ℕ → ℕ → Going → ℕ → Going
 placed inner units u r g o =
     let row = row_at units u o in
     let n = g.plan.next in
@@ -136,11 +122,11 @@ placed inner units u r g o =
     let x : Planned = record { number = n; unit = u; object = o; is_around = is_around; owner = option_and_then (number_in g.numbers) row.owner } in
     record { numbers = g.numbers ++ (o, n) ∷ []; plan = inside inner is_around row.of_type n (with_planned x g.plan) }
 
-abbrev each_placed : Inner → AllRows → ℕ → ℕ → Going → List ℕ → Going
+abbrev pub each_placed : Inner → AllRows → ℕ → ℕ → Going → List ℕ → Going
 each_placed inner units u r g [] = g
 each_placed inner units u r g (o ∷ rest) = each_placed inner units u r (placed inner units u r g o) rest
 
-abbrev finished : ℕ → ℕ → ℕ → Option ℕ → Going → Plan
+abbrev pub finished : ℕ → ℕ → ℕ → Option ℕ → Going → Plan
 finished u r n enclosing g = record {
   next = g.plan.next;
   objects = g.plan.objects;
@@ -148,18 +134,18 @@ finished u r n enclosing g = record {
 }
 
 -- an instance whose root has its number already
-abbrev stands : Inner → AllRows → ℕ → ℕ → ℕ → Option ℕ → Plan → Plan
+abbrev pub stands : Inner → AllRows → ℕ → ℕ → ℕ → Option ℕ → Plan → Plan
 stands inner units u r n enclosing plan =
     finished u r n enclosing
     (each_placed inner units u r (record { numbers = (r, n) ∷ []; plan = inner (row_at units u r).of_type n plan })
     (filter (λ o. not (nat_eq o r)) (component_at units u r).standing))
 
-abbrev inner_within : ℕ → AllRows → TypeRef → ℕ → Plan → Plan
+abbrev pub inner_within : ℕ → AllRows → TypeRef → ℕ → Plan → Plan
 inner_within zero units t n plan = plan
 inner_within (suc f) units (Builtin t) n plan = plan
 inner_within (suc f) units (OfDocument u) n plan = stands (λ t n plan. inner_within f units t n plan) units u.0 0 n None plan
 
-abbrev inner : AllRows → TypeRef → ℕ → Plan → Plan
+abbrev pub inner : AllRows → TypeRef → ℕ → Plan → Plan
 inner units t n plan = inner_within (suc (length units)) units t n plan
 
 -- what is made of the object `r` of a document from a number on

@@ -23,7 +23,7 @@ use Rattle.tree_model.specs.declared.cells.Content.TheVariants.{Plain}
 use Rattle.tree_model.specs.declared.cells.Report.{Report}
 use Rattle.trace_print.specs.declared.entry.Entry.{Entry}
 use Rattle.trace_print.specs.declared.entry.Site.{Site}
-use Rattle.instance_plans.specs.Numbers.{Planned}
+use Rattle.instance_plans.specs.declared.planned.Planned.{Planned}
 use Rattle.instance_plans.specs.Cells.{MadeObject}
 use Rattle.instance_plans.specs.Plans.{Instance, PlanFault, by_field, full}
 use Rattle.qml_types.specs.declared.kind.TypeNo.{TypeNo}

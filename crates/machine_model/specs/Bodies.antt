@@ -33,7 +33,8 @@ use Rattle.trace_print.specs.declared.entry.Site.{Site}
 use Rattle.qml_scope.specs.Shapes.{names_of, types_among}
 use Rattle.unit_rows.specs.declared.names.CellRow.{CellRow}
 use Rattle.unit_rows.specs.Given.{cell_given}
-use Rattle.instance_plans.specs.Numbers.{AllRows, Planned, row_at, documents_of, builtin_planned}
+use Rattle.instance_plans.specs.Numbers.{AllRows, row_at, documents_of, builtin_planned}
+use Rattle.instance_plans.specs.declared.planned.Planned.{Planned}
 use Rattle.machine_model.specs.State.{Machine, past, numbered}
 use Rattle.machine_model.specs.Acts.{Act, Done, ◌>>=◌, ◌>>◌, nothing, give, look, stop_with, by_test, tell}
 use Rattle.machine_model.specs.Showing.{held_in}

@@ -21,7 +21,8 @@ use Rattle.unit_rows.specs.declared.names.NameRow.{NameRow}
 use Rattle.unit_rows.specs.declared.names.SignalRef.TheVariants.{Change as change_of, Own as own_signal, OfTarget as of_target, Completed as on_completed, Destruction as on_destruction}
 use Rattle.unit_rows.specs.declared.names.NameFinds.TheVariants.{Signal as finds_signal}
 use Rattle.unit_rows.specs.NamesOfObjects.{rows_of_type}
-use Rattle.instance_plans.specs.Numbers.{AllRows, Planned, row_at, documents_of, builtin_planned, planned_at, unit_no}
+use Rattle.instance_plans.specs.Numbers.{AllRows, row_at, documents_of, builtin_planned, planned_at, unit_no}
+use Rattle.instance_plans.specs.declared.planned.Planned.{Planned}
 use Rattle.instance_plans.specs.NamesMade.{signal_no}
 use Rattle.instance_plans.specs.Plans.{names_of_row}
 use Rattle.machine_model.specs.State.{Machine, Signal, numbered, completed, destruction, Deed, reacts, runs, Delivery}

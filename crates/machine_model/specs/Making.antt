@@ -19,7 +19,8 @@ use Rattle.tree_model.specs.declared.cells.Rule.TheVariants as rule
 use Rattle.property_store.specs.Stores.{new_cells}
 use Rattle.qml_scope.specs.declared.shape.Shape.{Shape}
 use Rattle.qml_scope.specs.declared.shape.Entry.{Entry}
-use Rattle.instance_plans.specs.Numbers.{Planned, planned_from, object_no}
+use Rattle.instance_plans.specs.Numbers.{planned_from, object_no}
+use Rattle.instance_plans.specs.declared.planned.Planned.{Planned}
 use Rattle.instance_plans.specs.Contents.{Rule, by_text, by_visible, by_enabled, by_count, Content, plain, list_of, bound}
 use Rattle.instance_plans.specs.NamesMade.{ObjectNames, InstanceNames}
 use Rattle.instance_plans.specs.Cells.{MadeCell, MadeObject}

@@ -15,7 +15,7 @@ use Rattle.trace_print.specs.declared.entry.Entry.{Entry}
 use Rattle.trace_print.specs.declared.entry.Entry.TheVariants as entry
 use Rattle.trace_print.specs.declared.entry.Site.TheVariants as site
 use Rattle.unit_rows.specs.declared.names.SignalRef.{SignalRef}
-use Rattle.instance_plans.specs.Numbers.{Planned}
+use Rattle.instance_plans.specs.declared.planned.Planned.{Planned}
 use Rattle.machine_model.specs.State.{Machine}
 use Rattle.machine_model.specs.Acts.{Done, nothing, each, by_test, tell}
 use Rattle.machine_model.specs.Showing.{held_in}

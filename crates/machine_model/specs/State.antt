@@ -11,7 +11,8 @@ pub use Rattle.machine_model.specs.declared.stop.Stop.TheVariants.{Past as past,
 use Rattle.tree_model.specs.Settling.{Tree}
 use Rattle.qml_scope.specs.Shapes.{Known}
 use Rattle.load_faults.specs.Loading.{Loading}
-use Rattle.instance_plans.specs.Numbers.{AllRows, Planned}
+use Rattle.instance_plans.specs.Numbers.{AllRows}
+use Rattle.instance_plans.specs.declared.planned.Planned.{Planned}
 
 -- what a host does: an answer, properties to set, signals to emit
 pub record Effects : Type 0 where
