@@ -7,6 +7,8 @@ mod form;
 mod member;
 mod parts;
 mod reading;
+#[cfg(test)]
+mod tests;
 
 pub use member::{Member, NamePath};
 pub use reading::{read_member, read_members};

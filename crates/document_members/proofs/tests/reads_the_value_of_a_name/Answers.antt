@@ -1,0 +1,5 @@
+use Rattle.qml_syntax.specs.Tree.{document, whole_document}
+use Rattle.document_members.proofs.tests.reads_the_value_of_a_name.Goals as goal
+
+pub new-requires-3 : goal.new-requires-3
+new-requires-3 g c = (whole_document (document c.in_ok-nodes.ensures.0 c.in_ok-nodes.ensures.1), c.in_ok-nodes.ensures.2)
