@@ -1,6 +1,7 @@
 -- Files that lie in a set, and the order of reading.
-use Rattle.std.proofs.Common.{◌≡◌, ◌∙◌, ap, sym, refl, ℕ, zero, suc, ◌+◌, arith, Bool, true, false, ◌||◌, if◌then◌else◌, List, [], ◌∷◌, ◌++◌, length, Option, None, Some}
+use Rattle.std.proofs.Common.{◌≡◌, ◌∙◌, ap, sym, refl, ℕ, zero, suc, ◌+◌, arith, Bool, true, false, ◌||◌, if◌then◌else◌, List, [], ◌∷◌, ◌++◌, length, Option, None, Some, Result, Ok, Err}
 use Rattle.std.specs.List.{list_any}
+use Rattle.std.specs.Result.{OnOk, is_err}
 use Rattle.std.proofs.lemmas.List.Folds.{list_any-append}
 use Rattle.std.specs.Prelude.{slice_get, is_some, unwrap_or, option_map}
 use Rattle.std.proofs.lemmas.Bool.{false≢true}
@@ -137,3 +138,7 @@ pub got_path : (keys : Keys) (at : ℕ) → slice_get (files_of keys) at ≡ opt
 got_path [] at = refl
 got_path (k ∷ keys) zero = refl
 got_path (k ∷ keys) (suc at) = got_path keys at
+
+pub ok_of : {T E : Type 0} (r : Result T E) (P : Type 0) → OnOk r P → is_err r ≡ false → P
+ok_of (Ok x) P h e = h
+ok_of (Err x) P h e = absurd (false≢true (sym e))

@@ -25,6 +25,14 @@ abbrev pub put_all : List File → List File → List File
 put_all files [] = files
 put_all files (file ∷ rest) = put_all (put files file) rest
 
+-- how files are read
+abbrev pub Reads : Type 0
+Reads = File → ReadFile
+
+-- what is told now allows no way of reading that wasn't allowed before
+abbrev pub Knows : (Reads → Type 0) → (Reads → Type 0) → Type 0
+Knows before now = (read : Reads) → now read → before read
+
 -- this is the end that reading from a root comes to, where enough files may be read
 abbrev pub IsEnd : (File → ReadFile) → File → Ended → Type 0
 IsEnd read root (ended.All files) = (n : ℕ) × (reading read n [] (root ∷ []) ≡ all_read (files_of files.keys))

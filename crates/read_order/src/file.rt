@@ -1,13 +1,14 @@
 //! Files by their paths, and how they are read.
 
-ghost use Rattle.std.specs.Prelude.{◌≡◌, IfOk};
-ghost use Rattle.program_names.specs.Reading.{File as AFile, ReadFile};
-ghost use Rattle.read_order.specs.Order.{file_of, read_of};
+ghost use Rattle.std.specs.Prelude.{◌≡◌, ℕ, List, IfOk};
+ghost use Rattle.type_search.specs.Causes.{Causes};
+ghost use Rattle.read_order.specs.Order.{Reads, Knows, file_of, read_of};
 
 use indexmap::IndexSet;
 use program_names::Fault;
 use qml_base::NoMemory;
 use std::alloc::Global;
+use type_search::SearchFault;
 
 /// A file as a document or as a script, by its path.
 #[derive(Debug, Eq, Hash, Drop)]
@@ -57,13 +58,21 @@ pub enum FileRead {
 
 /// Tells how files are read.
 pub trait Reader {
-    /// How each file is read.
-    ghost read: { Self → AFile → ReadFile };
+    /// Which ways of reading files it allows, by what it has told.
+    ghost allows: { Self → Reads → Type 0 };
 
-    /// Reads a file. What is told of any file is told of it again.
-    fn read_file(&mut self, alloc: Global, file: &File) -> Result<FileRead, NoMemory>
-        ensures told { IfOk result (λ how. read_of how ≡ read self.old (file_of file.now)) }
-        ensures steady { (f : AFile) → read self.new f ≡ read self.old f };
+    /// How many readings failed.
+    ghost faults: { Self → ℕ };
+
+    /// The paths of the files whose reading failed, oldest first.
+    ghost failed: { Self → List (List ℕ) };
+
+    /// Reads a file. What was told of any file stays so. Failed comes only where the count of faults rose in this call; want of
+    /// memory is free.
+    fn read_file(&mut self, alloc: Global, file: &File) -> Result<FileRead, SearchFault>
+        ensures told { IfOk result (λ how. (read : Reads) → allows self.new read → read_of how ≡ read (file_of file.now)) }
+        ensures steady { Knows (allows self.old) (allows self.new) }
+        ensures cause { Causes (faults self.old) (faults self.new) (failed self.old) (failed self.new) result };
 }
 
 /// How reading ended: with all files in the order in which they were read, or with the first that is refused, and its fault.

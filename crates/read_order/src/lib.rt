@@ -1,9 +1,11 @@
 //! Reads the files of a program breadth first, in the order of first mention, up to the first that is refused. How a file
-//! is read is told by a trait. It promises that reading ends as the definition of `program_names` says.
+//! is read is told by a trait. It promises that reading ends as the definition of `program_names` says, for every way of
+//! reading files that agrees with what was told.
 #![tactic(auto)]
 
-ghost use Rattle.std.specs.Prelude.{◌≡◌, IfOk, OnOk};
-ghost use Rattle.read_order.specs.Order.{IsEnd, put, put_all, files_of, file_of as file_value};
+ghost use Rattle.std.specs.Prelude.{◌≡◌, IfOk, OnOk, option_map, slice_get};
+ghost use Rattle.type_search.specs.Causes.{Causes};
+ghost use Rattle.read_order.specs.Order.{IsEnd, Reads, Knows, put, put_all, files_of, file_of as file_value};
 
 mod file;
 #[cfg(test)]
@@ -13,25 +15,46 @@ pub use file::{Ended, File, FileRead, Reader};
 use indexmap::IndexSet;
 use qml_base::NoMemory;
 use std::alloc::Global;
+use type_search::SearchFault;
 
 /// Reads a document and all files that it mentions, through others too, each once. Where that has no end within
-/// 4,294,967,295 files there is no memory for them. However it ends, the reader tells of no file otherwise than before.
-pub fn read_all<R: Reader>(alloc: Global, reader: &mut R, root: File) -> Result<Ended, NoMemory>
-    ensures { IfOk result (λ end. IsEnd (R.read reader.old) (file_value root) end) }
+/// 4,294,967,295 files there is no memory for them. Failed comes only where the count of faults rose in this call.
+pub fn read_all<R: Reader>(alloc: Global, reader: &mut R, root: File) -> Result<Ended, SearchFault>
+    ensures told { IfOk result (λ end. (read : Reads) → R.allows reader.new read → IsEnd read (file_value root) end) }
+    ensures steady { Knows (R.allows reader.old) (R.allows reader.new) }
+    ensures cause { Causes (R.faults reader.old) (R.faults reader.new) (R.failed reader.old) (R.failed reader.new) result }
 {
     let mut files: IndexSet<File> = IndexSet::new(alloc);
-    put_in(&mut files, root)?;
+    if put_in(&mut files, root).is_err() {
+        return Err(SearchFault::NoMemory);
+    }
     'files: for at in 0..u32::MAX {
-        let file = match files.get_index(at as usize) {
-            Some(file) => file.copy(alloc)?,
-            None => return Ok(Ended::All(files)),
+        let file = match file_at(alloc, &files, at as usize) {
+            Ok(Some(file)) => file,
+            Ok(None) => return Ok(Ended::All(files)),
+            Err(NoMemory) => return Err(SearchFault::NoMemory),
         };
-        match reader.read_file(alloc, &file)? {
-            FileRead::Mentioning(mentions) => put_all_in(&mut files, mentions)?,
-            FileRead::Refused(fault) => return Ok(Ended::Refused(file, fault)),
+        match reader.read_file(alloc, &file) {
+            Ok(FileRead::Mentioning(mentions)) => {
+                if put_all_in(&mut files, mentions).is_err() {
+                    return Err(SearchFault::NoMemory);
+                }
+            }
+            Ok(FileRead::Refused(fault)) => return Ok(Ended::Refused(file, fault)),
+            Err(fault) => return Err(fault),
         }
     }
-    Err(NoMemory)
+    Err(SearchFault::NoMemory)
+}
+
+/// The file that stands behind this many others, if there is one.
+fn file_at(alloc: Global, files: &IndexSet<File>, at: usize) -> Result<Option<File>, NoMemory>
+    ensures { IfOk result (λ file. option_map file_value file ≡ slice_get (files_of files.now.keys) at) }
+{
+    match files.get_index(at) {
+        Some(file) => Ok(Some(file.copy(alloc)?)),
+        None => Ok(None),
+    }
 }
 
 /// Puts a file last, where it isn't there yet.
