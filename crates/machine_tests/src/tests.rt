@@ -101,6 +101,13 @@ fn write(alloc: Global, tree: &mut LiveTree, n: u32) -> Result<Value, Fail> {
     Ok(held)
 }
 
+fn is_seven(held: &Value) -> bool {
+    match held {
+        Value::Num(n) => n.get() == 7,
+        _ => false,
+    }
+}
+
 #[tactic(auto, using(live_tree::proofs::LiveLemmas::knows_all))]
 fn tells<L: Ledger>(rt: &impl Abort, alloc: Global, blank: Blank) -> Result<(), Fail>
     requires name { blank.name ≡ L.name }
@@ -114,7 +121,7 @@ fn tells<L: Ledger>(rt: &impl Abort, alloc: Global, blank: Blank) -> Result<(), 
         return Err(Fail::from("does not settle"));
     };
     tell_settled(alloc, &tree, &changed, &mut trace)?;
-    assert_eq!(rt; write(alloc, &mut tree, 8)?, Value::Num(Num::small(7)));
+    assert_eq!(rt; is_seven(&write(alloc, &mut tree, 8)?), true);
     let Ok(changed) = settle(alloc, &mut tree, &mut Copies, &mut steps) else {
         return Err(Fail::from("does not settle"));
     };
@@ -144,7 +151,7 @@ fn stops<L: Ledger>(rt: &impl Abort, alloc: Global, blank: Blank) -> Result<(), 
     let mut tree = tree(alloc, 2)?;
     match settle(alloc, &mut tree, &mut Copies, &mut steps) {
         Err(Fault::Stopped(Stop::Past(Site::Cell(name)))) => {
-            assert_eq!(rt; name.name.as_slice(), Text::from_str(alloc, "c")?.as_slice());
+            assert_eq!(rt; name.name.units(), Text::from_str(alloc, "c")?.units());
             Ok(())
         }
         _ => Err(Fail::from("does not stop")),
