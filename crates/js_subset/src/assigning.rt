@@ -316,6 +316,7 @@ fn read_spot<V: View>(
 }
 
 /// Goes on behind what the target at a place assigns to.
+#[tactic(auto, using(crate::proofs::FoundLemmas::found_updated))]
 fn target_found<V: View>(
     machine: &mut Machine,
     alloc: Global,
@@ -334,15 +335,9 @@ fn target_found<V: View>(
         }
         Some(_) => {
             let copy = copied_spot(alloc, &spot)?;
-            read_spot(
-                machine,
-                alloc,
-                tree,
-                view,
-                home,
-                Frame::Updated(copy, target),
-                &spot,
-            )
+            let frame = Frame::Updated(copy, target);
+            let next = read_spot(machine, alloc, tree, view, home, frame, &spot)?;
+            Ok(next)
         }
     }
 }
@@ -354,24 +349,21 @@ pub(crate) fn found_for<V: View>(
     tree: &Tree,
     view: &V,
     home: Home,
-    frame: Frame,
+    frame: &Frame,
     spot: Spot,
 ) -> Result<Next, NoMemory>
-    ensures { IfOk result (λ y. FoundFor (record { names = V.names view.now; view = V.seen view.now }) (laid tree.now) home frame spot (standing machine.old) (standing machine.new) y) }
+    ensures { IfOk result (λ y. FoundFor (record { names = V.names view.now; view = V.seen view.now }) (laid tree.now) home frame.now spot (standing machine.old) (standing machine.new) y) }
 {
     match frame {
-        Frame::Target(target) => { target_found(machine, alloc, tree, view, home, spot, target) }
+        Frame::Target(target) => {
+            let next = target_found(machine, alloc, tree, view, home, spot, *target)?;
+            Ok(next)
+        }
         Frame::Bump(by, gives) => {
             let copy = copied_spot(alloc, &spot)?;
-            read_spot(
-                machine,
-                alloc,
-                tree,
-                view,
-                home,
-                Frame::Bumped(by, gives, copy),
-                &spot,
-            )
+            let bumped = Frame::Bumped(*by, *gives, copy);
+            let next = read_spot(machine, alloc, tree, view, home, bumped, &spot)?;
+            Ok(next)
         }
         _ => Err(NoMemory),
     }

@@ -1,6 +1,6 @@
 //! A `Qt.binding` that is assigned.
 
-ghost use Rattle.std.specs.Prelude.{◌≡◌, IfOk};
+ghost use Rattle.std.specs.Prelude.{◌≡◌, ◌&&◌, IfOk};
 ghost use Rattle.js_locals.specs.Laid.{laid};
 ghost use Rattle.js_frames.specs.Meant.{bound_of};
 ghost use Rattle.js_frames.specs.Spots.{is_bound, is_steps, is_named, is_member, is_function, single_function, BoundAt};
@@ -71,8 +71,15 @@ fn is_single(tree: &Tree, part: usize) -> Result<bool, NoMemory>
     }
 }
 
+/// Whether all three hold.
+fn all_of(first: bool, second: bool, third: bool) -> bool
+    ensures { result ≡ ((first && second) && third) }
+{
+    first && second && third
+}
+
 /// Whether the steps at a place are a `Qt.binding` with its function.
-#[tactic(auto, using(js_frames::proofs::BoundLemmas::steps_bound, js_frames::proofs::BoundLemmas::plain_unbound))]
+#[tactic(auto, using(crate::proofs::FoundLemmas::steps_bound_as, js_frames::proofs::BoundLemmas::plain_unbound))]
 fn is_bound_at(tree: &Tree, at: usize) -> Result<bool, NoMemory>
     ensures { IfOk result (λ b. BoundAt (laid tree.now) at b) }
 {
@@ -94,8 +101,10 @@ fn is_bound_at(tree: &Tree, at: usize) -> Result<bool, NoMemory>
     let Some(member) = node_at(tree, step) else {
         return Err(NoMemory);
     };
+    let is_first = is_qt(name);
+    let is_second = is_member(member);
     let single = is_single(tree, step)?;
-    Ok(is_qt(name) && is_member(member) && single)
+    Ok(all_of(is_first, is_second, single))
 }
 
 /// Whether a `Qt.binding` stands behind a target.

@@ -75,6 +75,22 @@ fn back<V: View>(
     }
 }
 
+/// Goes on behind what is assigned to, by the frame that awaits it.
+fn found_behind<V: View>(
+    machine: &mut Machine,
+    alloc: Global,
+    tree: &Tree,
+    view: &V,
+    home: Home,
+    frame: Frame,
+    spot: Spot,
+) -> Result<Next, NoMemory>
+    ensures { IfOk result (λ y. GoesAt (record { names = V.names view.now; view = V.seen view.now }) (laid tree.now) home (with_frame frame (standing machine.old)) (Next.Found spot) (standing machine.new) y) }
+{
+    let next = found_for(machine, alloc, tree, view, home, &frame, spot)?;
+    Ok(next)
+}
+
 /// Goes on behind what is assigned to.
 fn found<V: View>(
     machine: &mut Machine,
@@ -89,7 +105,7 @@ fn found<V: View>(
     match machine.frames.pop() {
         None => Err(NoMemory),
         Some(frame) => {
-            let next = found_for(machine, alloc, tree, view, home, frame, spot)?;
+            let next = found_behind(machine, alloc, tree, view, home, frame, spot)?;
             Ok(next)
         }
     }
@@ -183,7 +199,10 @@ fn given(
         Some(Frame::Call(caller, locals, at)) => {
             Ok(returned(machine, here, caller, locals, at, value))
         }
-        Some(frame) => gives(machine, tree, frame, value),
+        Some(frame) => {
+            let next = gives(machine, tree, &frame, value)?;
+            Ok(next)
+        }
     }
 }
 
@@ -196,7 +215,10 @@ fn stopped(machine: &mut Machine, here: &mut Here, tree: &Tree) -> Result<Next, 
         Some(Frame::Call(caller, locals, at)) => {
             Ok(returned(machine, here, caller, locals, at, Value::Undefined))
         }
-        Some(frame) => stops(machine, tree, frame),
+        Some(frame) => {
+            let next = stops(machine, tree, &frame)?;
+            Ok(next)
+        }
     }
 }
 

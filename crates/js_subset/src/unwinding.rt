@@ -32,7 +32,10 @@ pub(crate) fn goes_on(machine: &mut Machine, tree: &Tree, frame: &Frame) -> Resu
         Frame::Scope => Ok(left(machine, tree, Next::Done)),
         Frame::Round(rounds, test) => looped(machine, *rounds, *test),
         Frame::ForStart(at) => for_looped(machine, tree, MOST, *at),
-        Frame::ForRound(rounds, at) => for_updated(machine, tree, *rounds, *at),
+        Frame::ForRound(rounds, at) => {
+            let next = for_updated(machine, tree, *rounds, *at)?;
+            Ok(next)
+        }
         _ => Err(NoMemory),
     }
 }
@@ -41,10 +44,10 @@ pub(crate) fn goes_on(machine: &mut Machine, tree: &Tree, frame: &Frame) -> Resu
 pub(crate) fn gives(
     machine: &mut Machine,
     tree: &Tree,
-    frame: Frame,
+    frame: &Frame,
     value: Value,
 ) -> Result<Next, NoMemory>
-    ensures { IfOk result (λ y. Gives (laid tree.now) frame value (standing machine.old) (standing machine.new) y) }
+    ensures { IfOk result (λ y. Gives (laid tree.now) frame.now value (standing machine.old) (standing machine.new) y) }
 {
     match frame {
         Frame::Row(_) => Ok(Next::Give(value)),
@@ -56,8 +59,8 @@ pub(crate) fn gives(
 }
 
 /// Goes on behind a `break`.
-pub(crate) fn stops(machine: &mut Machine, tree: &Tree, frame: Frame) -> Result<Next, NoMemory>
-    ensures { IfOk result (λ y. Stops (laid tree.now) frame (standing machine.old) (standing machine.new) y) }
+pub(crate) fn stops(machine: &mut Machine, tree: &Tree, frame: &Frame) -> Result<Next, NoMemory>
+    ensures { IfOk result (λ y. Stops (laid tree.now) frame.now (standing machine.old) (standing machine.new) y) }
 {
     match frame {
         Frame::Row(_) => Ok(Next::Stop),
@@ -80,7 +83,10 @@ pub(crate) fn goes_again(
         Frame::Row(_) => Ok(Next::Again),
         Frame::Scope => Ok(left(machine, tree, Next::Again)),
         Frame::Round(rounds, test) => looped(machine, *rounds, *test),
-        Frame::ForRound(rounds, at) => for_updated(machine, tree, *rounds, *at),
+        Frame::ForRound(rounds, at) => {
+            let next = for_updated(machine, tree, *rounds, *at)?;
+            Ok(next)
+        }
         _ => Err(NoMemory),
     }
 }
