@@ -1,6 +1,6 @@
 -- The root of a tree is the text that it is.
 use Rattle.std.proofs.Common.{◌≡◌, ◌≢◌, ◌∙◌, ap, sym, subst, ℕ, ◌+◌, ◌<◌, nat_eq, length, ltb, true, false, refl, arith, Some, List, map}
-use Rattle.js_subset.specs.Laid.{laid, name_of}
+use Rattle.js_locals.specs.Laid.{laid, name_of}
 use Rattle.eval_tests.specs.declared.plain.Function.{Function as Own}
 use Rattle.std.proofs.lemmas.Bool.Decides.{nat_tests}
 use Rattle.qml_syntax.specs.Tree.{Whole}

@@ -12,7 +12,7 @@ use Rattle.evaluation.specs.Ask.{Names}
 use Rattle.evaluation.specs.Evaluating.{Seen, is, looped, past}
 use Rattle.js_meaning.specs.Operate.{same_units}
 use Rattle.js_meaning.specs.Eval.{Code, Function}
-use Rattle.js_subset.specs.Laid.{laid, name_of, stmts_in}
+use Rattle.js_locals.specs.Laid.{laid, name_of, stmts_in}
 use Rattle.eval_tests.specs.declared.plain.Function.{Function as Own}
 
 abbrev pub text_or_none : Option Whole → Whole

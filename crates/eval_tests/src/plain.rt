@@ -3,7 +3,7 @@
 ghost use Rattle.std.specs.Prelude.{◌≡◌, map};
 ghost use Rattle.qml_syntax.specs.Opened.{root_of};
 ghost use Rattle.qml_syntax.specs.Places.{part_at};
-ghost use Rattle.js_subset.specs.Laid.{laid, name_of};
+ghost use Rattle.js_locals.specs.Laid.{laid, name_of};
 ghost use Rattle.eval_tests.specs.Plain.{seen_at, found_cell, is_global, found_other, plain_names, code_of, table_at, text_in};
 
 use evaluation::{Seen, View};

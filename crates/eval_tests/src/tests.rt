@@ -352,7 +352,7 @@ fn evaluates_each_expression(rt: HostRuntime) -> Result<(), Fail> {
 }
 
 /// Bodies, and what they come to.
-const BODIES: [(&str, &str); 34] = [
+const BODIES: [(&str, &str); 62] = [
     // what is given back
     ("return 1", "1"),
     ("return", "undefined"),
@@ -394,6 +394,45 @@ const BODIES: [(&str, &str); 34] = [
     ("for (let x = 1; x < 1; ) return 1; return 8", "8"),
     ("for (var x = 5; ; ) return x", "5"),
     ("for (let x = 5; false; ) {} return x", "Threw Name"),
+    // assignments to locals
+    ("let x = 1; x = 2; return x", "2"),
+    ("let x = 1; return x = 3", "3"),
+    ("let x = 1, y = 2; x = y = 5; return x + y", "10"),
+    ("let x = 6; x += 2; x -= 1; x *= 3; x /= 7; return x", "3"),
+    (
+        "let x = 7; x %= 4; x <<= 2; x |= 1; x &= 12; x ^= 5; return x",
+        "9",
+    ),
+    ("let x = 1; return x++ + x", "3"),
+    ("let x = 1; return ++x + x", "4"),
+    ("let x = 5; return - --x", "-4"),
+    ("const x = 1; x = later", "Need later reads later"),
+    ("const x = 1; x = 2", "Threw Readonly"),
+    ("const x = 1; x++", "Threw Readonly"),
+    ("x = 1; let x", "Threw Name"),
+    ("let x = 'a'; x++", "Threw Kind"),
+    ("let x = 9007199254740992; x++", "Past"),
+    (
+        "let s = ''; for (var i = 0; i < 3; i++) s += i; return s",
+        "'012'",
+    ),
+    (
+        "var s = 0; for (var i = 0; i < 10; i = i + 1) { if (i === 5) continue; s = s + i } return s",
+        "40",
+    ),
+    ("let i = 0; while (i < 5) i++; return i", "5"),
+    // assignments to what is outside, which are not done here
+    ("a = 1", "Threw Call"),
+    ("a = later", "Need later reads later"),
+    ("a += 1", "Threw Call reads a"),
+    ("--a", "Threw Call reads a"),
+    ("nix = 1", "Threw Call"),
+    ("nix += 1", "Threw Name"),
+    ("item.a = 1", "Threw Call"),
+    ("item.a += later", "Need later reads a later"),
+    ("rows[a] = later", "Need later reads rows a later"),
+    ("null.a += 1", "Threw Null"),
+    ("a = Qt.binding(function() { return 1 })", "Threw Call"),
 ];
 
 /// What a body comes to.

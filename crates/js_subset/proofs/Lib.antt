@@ -1,13 +1,1 @@
-mod LaidLemmas
-mod NodeLemmas
-mod ToldLemmas
-mod ScopeLemmas
-mod GoesLemmas
-mod BeginLemmas
-mod StepLemmas
-mod ArgumentLemmas
-mod GatheringLemmas
-mod StatementLemmas
-mod CallLemmas
-mod StartLemmas
-mod EndLemmas
+pub mod FoundLemmas

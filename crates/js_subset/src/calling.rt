@@ -2,19 +2,16 @@
 
 ghost use Rattle.std.specs.Prelude.{◌≡◌, ◌∷◌, [], true, false, map, IfOk};
 ghost use Rattle.js_meaning.specs.Locals.{lets_of, parameters, vars_of_all};
-ghost use Rattle.js_subset.specs.Laid.{laid, name_of, stmts_in};
-ghost use Rattle.js_subset.specs.Scopes.{scopes_of, fresh_onto, parameters_onto};
-ghost use Rattle.js_subset.specs.Standing.{standing};
-ghost use Rattle.js_subset.specs.Gathering.{row_from};
-ghost use Rattle.js_subset.specs.Stepping.{BodyBegun, Enters, Returns};
+ghost use Rattle.js_locals.specs.Laid.{laid, name_of, stmts_in};
+ghost use Rattle.js_locals.specs.Scopes.{scopes_of, fresh_onto, parameters_onto};
+ghost use Rattle.js_frames.specs.Standing.{standing};
+ghost use Rattle.js_locals.specs.Gathering.{row_from};
+ghost use Rattle.js_frames.specs.Stepping.{BodyBegun, Enters, Returns};
 
-use crate::code::Code;
-use crate::frames::{Before, Frame, Here, Next};
-use crate::gathering::{let_names, row_behind, var_names};
-use crate::locals::{Local, Locals, bind, declare};
-use crate::looking::threw;
-use crate::machine::Machine;
 use evaluation::Args;
+use js_frames::{Before, Code, Frame, Here, Machine, Next};
+use js_locals::{Local, Locals, bind, declare, let_names, row_behind, var_names};
+use js_steps::threw;
 use qml_base::{Cause, ExprNo, Home, ObjNo};
 use qml_syntax::Tree;
 use qml_text::NoMemory;
@@ -84,7 +81,7 @@ fn begin_body(
 }
 
 /// Calls a body.
-#[tactic(auto, using(crate::proofs::CallLemmas::enters_body))]
+#[tactic(auto, using(js_frames::proofs::CallLemmas::enters_body))]
 pub(crate) fn entered<C: Code>(
     machine: &mut Machine,
     alloc: Global,

@@ -3,15 +3,13 @@
 ghost use Rattle.std.specs.Prelude.{◌≡◌, ◌+◌};
 ghost use Rattle.evaluation.specs.Hearing.{heard, Answers};
 ghost use Rattle.js_meaning.specs.Eval.{asks_whole};
-ghost use Rattle.js_subset.specs.Stepping.{IsOutcome, EndsAs};
+ghost use Rattle.js_frames.specs.Stepping.{IsOutcome, EndsAs};
 
-use crate::code::Code;
-use crate::frames::{Here, Next, Stack};
-use crate::locals::Locals;
-use crate::machine::Machine;
 use crate::running::run;
 use crate::starting::start;
 use evaluation::{Evaluated, Rules, View};
+use js_frames::{Code, Here, Machine, Next, Stack};
+use js_locals::Locals;
 use qml_base::{CALL_LIMIT, CellNo, ExprNo, Home, NODE_LIMIT, Steps};
 use qml_syntax::Tree;
 use std::alloc::Global;
@@ -29,7 +27,7 @@ fn outcome(next: Next) -> Evaluated
 }
 
 /// Goes on from what a text begins with to its end.
-#[tactic(auto, using(crate::proofs::EndLemmas::ends_as, crate::proofs::EndLemmas::no_answer))]
+#[tactic(auto, using(js_frames::proofs::EndLemmas::ends_as, js_frames::proofs::EndLemmas::no_answer))]
 fn run_to_end<V: View, C: Code>(
     alloc: Global,
     view: &V,
@@ -57,7 +55,7 @@ fn run_to_end<V: View, C: Code>(
 }
 
 /// Evaluates a text by a view, and adds the cells that it read, in order. It takes one step.
-#[tactic(auto, using(crate::proofs::EndLemmas::evaluates))]
+#[tactic(auto, using(js_frames::proofs::EndLemmas::evaluates))]
 pub fn eval<V: View, C: Code, L: Ledger>(
     alloc: Global,
     view: &V,

@@ -1,22 +1,18 @@
 //! The machine from its start to its end.
 
 ghost use Rattle.std.specs.Prelude.{◌≡◌, ◌∷◌, [], IfOk};
-ghost use Rattle.js_subset.specs.Laid.{laid};
-ghost use Rattle.js_subset.specs.Standing.{standing, with_frame};
-ghost use Rattle.js_subset.specs.Statements.{GoesOn, Gives, Stops, GoesAgain};
-ghost use Rattle.js_subset.specs.Stepping.{GoesAt, Goes, Unwinds, has_ended_of};
+ghost use Rattle.js_locals.specs.Laid.{laid};
+ghost use Rattle.js_frames.specs.Standing.{standing, with_frame};
+ghost use Rattle.js_frames.specs.Statements.{GoesOn, Gives, Stops, GoesAgain};
+ghost use Rattle.js_frames.specs.Stepping.{GoesAt, Goes, Unwinds, has_ended_of};
 
-use crate::beginning::{begun, signs};
+use crate::assigning::{assigned, found_for, is_of_assignment, spot, targets};
 use crate::calling::{entered, returned};
-use crate::code::Code;
-use crate::finishing::arguments;
-use crate::frames::{Frame, Here, Next};
-use crate::machine::Machine;
-use crate::resuming::resumed;
 use crate::statements::{declared, rested, run_at, taken};
-use crate::stepping::stepped;
 use crate::unwinding::{gives, goes_again, goes_on, stops};
 use evaluation::{Evaluated, View};
+use js_frames::{Code, Frame, Here, Machine, Next, Spot};
+use js_steps::{arguments, begun, resumed, signs, stepped};
 use qml_base::Home;
 use qml_syntax::Tree;
 use qml_text::NoMemory;
@@ -34,7 +30,7 @@ fn is_of_statement(frame: &Frame) -> bool {
 }
 
 /// Goes on with a value that a frame awaits.
-#[tactic(auto, using(crate::proofs::EndLemmas::resumes_at, crate::proofs::EndLemmas::takes_at))]
+#[tactic(auto, using(js_frames::proofs::EndLemmas::resumes_at, js_frames::proofs::EndLemmas::takes_at))]
 fn back_to<V: View>(
     machine: &mut Machine,
     alloc: Global,
@@ -46,7 +42,10 @@ fn back_to<V: View>(
 ) -> Result<Next, NoMemory>
     ensures { IfOk result (λ y. GoesAt (record { names = V.names view.now; view = V.seen view.now }) (laid tree.now) home (with_frame frame (standing machine.old)) (Next.Back value) (standing machine.new) y) }
 {
-    if is_of_statement(&frame) {
+    if is_of_assignment(&frame) {
+        let next = assigned(machine, alloc, tree, frame, value)?;
+        Ok(next)
+    } else if is_of_statement(&frame) {
         let next = taken(machine, alloc, tree, frame, value)?;
         Ok(next)
     } else {
@@ -56,7 +55,7 @@ fn back_to<V: View>(
 }
 
 /// Gives a value back to what awaits it.
-#[tactic(auto, using(crate::proofs::EndLemmas::ends_here))]
+#[tactic(auto, using(js_frames::proofs::EndLemmas::ends_here))]
 fn back<V: View>(
     machine: &mut Machine,
     alloc: Global,
@@ -76,8 +75,44 @@ fn back<V: View>(
     }
 }
 
+/// Goes on behind what is assigned to, by the frame that awaits it.
+fn found_behind<V: View>(
+    machine: &mut Machine,
+    alloc: Global,
+    tree: &Tree,
+    view: &V,
+    home: Home,
+    frame: Frame,
+    spot: Spot,
+) -> Result<Next, NoMemory>
+    ensures { IfOk result (λ y. GoesAt (record { names = V.names view.now; view = V.seen view.now }) (laid tree.now) home (with_frame frame (standing machine.old)) (Next.Found spot) (standing machine.new) y) }
+{
+    let next = found_for(machine, alloc, tree, view, home, &frame, spot)?;
+    Ok(next)
+}
+
+/// Goes on behind what is assigned to.
+fn found<V: View>(
+    machine: &mut Machine,
+    alloc: Global,
+    tree: &Tree,
+    view: &V,
+    home: Home,
+    spot: Spot,
+) -> Result<Next, NoMemory>
+    ensures { IfOk result (λ y. GoesAt (record { names = V.names view.now; view = V.seen view.now }) (laid tree.now) home (standing machine.old) (Next.Found spot) (standing machine.new) y) }
+{
+    match machine.frames.pop() {
+        None => Err(NoMemory),
+        Some(frame) => {
+            let next = found_behind(machine, alloc, tree, view, home, frame, spot)?;
+            Ok(next)
+        }
+    }
+}
+
 /// One move within the code that is under way.
-#[tactic(auto, using(crate::proofs::EndLemmas::begun_at, crate::proofs::EndLemmas::steps_at, crate::proofs::EndLemmas::signs_at, crate::proofs::EndLemmas::args_at, crate::proofs::EndLemmas::runs_at, crate::proofs::EndLemmas::rests_at, crate::proofs::EndLemmas::vars_at, crate::proofs::EndLemmas::stays_at))]
+#[tactic(auto, using(js_frames::proofs::EndLemmas::begun_at, js_frames::proofs::EndLemmas::steps_at, js_frames::proofs::EndLemmas::signs_at, js_frames::proofs::EndLemmas::args_at, js_frames::proofs::EndLemmas::runs_at, js_frames::proofs::EndLemmas::rests_at, js_frames::proofs::EndLemmas::vars_at, js_frames::proofs::EndLemmas::stays_at))]
 fn moved_within<V: View>(
     machine: &mut Machine,
     alloc: Global,
@@ -106,6 +141,15 @@ fn moved_within<V: View>(
             let next = arguments(machine, alloc, tree, view, callee, at)?;
             Ok(next)
         }
+        Next::Targets(at) => {
+            let next = targets(machine, tree, at)?;
+            Ok(next)
+        }
+        Next::Spot(at) => {
+            let next = spot(machine, tree, view, home, at)?;
+            Ok(next)
+        }
+        Next::Found(there) => found(machine, alloc, tree, view, home, there),
         Next::Run(at) => {
             let next = run_at(machine, alloc, tree, at)?;
             Ok(next)
@@ -134,7 +178,10 @@ fn done(machine: &mut Machine, here: &mut Here, tree: &Tree) -> Result<Next, NoM
         Some(Frame::Call(caller, locals, at)) => {
             Ok(returned(machine, here, caller, locals, at, Value::Undefined))
         }
-        Some(frame) => goes_on(machine, tree, frame),
+        Some(frame) => {
+            let next = goes_on(machine, tree, &frame)?;
+            Ok(next)
+        }
     }
 }
 
@@ -152,7 +199,10 @@ fn given(
         Some(Frame::Call(caller, locals, at)) => {
             Ok(returned(machine, here, caller, locals, at, value))
         }
-        Some(frame) => gives(machine, tree, frame, value),
+        Some(frame) => {
+            let next = gives(machine, tree, &frame, value)?;
+            Ok(next)
+        }
     }
 }
 
@@ -165,7 +215,10 @@ fn stopped(machine: &mut Machine, here: &mut Here, tree: &Tree) -> Result<Next, 
         Some(Frame::Call(caller, locals, at)) => {
             Ok(returned(machine, here, caller, locals, at, Value::Undefined))
         }
-        Some(frame) => stops(machine, tree, frame),
+        Some(frame) => {
+            let next = stops(machine, tree, &frame)?;
+            Ok(next)
+        }
     }
 }
 
@@ -178,12 +231,15 @@ fn repeated(machine: &mut Machine, here: &mut Here, tree: &Tree) -> Result<Next,
         Some(Frame::Call(caller, locals, at)) => {
             Ok(returned(machine, here, caller, locals, at, Value::Undefined))
         }
-        Some(frame) => goes_again(machine, tree, frame),
+        Some(frame) => {
+            let next = goes_again(machine, tree, &frame)?;
+            Ok(next)
+        }
     }
 }
 
 /// One move.
-#[tactic(auto, using(crate::proofs::CallLemmas::enters_when, crate::proofs::CallLemmas::done_when, crate::proofs::CallLemmas::given_when, crate::proofs::CallLemmas::stopped_when, crate::proofs::CallLemmas::repeated_when, crate::proofs::CallLemmas::within_at))]
+#[tactic(auto, using(js_frames::proofs::CallLemmas::enters_when, js_frames::proofs::CallLemmas::done_when, js_frames::proofs::CallLemmas::given_when, js_frames::proofs::CallLemmas::stopped_when, js_frames::proofs::CallLemmas::repeated_when, js_frames::proofs::CallLemmas::within_at))]
 fn moved<V: View, C: Code>(
     machine: &mut Machine,
     alloc: Global,
@@ -235,11 +291,8 @@ fn has_ended(next: &Next) -> bool
     }
 }
 
-/// More moves than any evaluation takes.
-const MOST: u64 = 1_000_000_000;
-
 /// Goes on to the end.
-#[tactic(auto, using(crate::proofs::EndLemmas::goes_on, crate::proofs::EndLemmas::goes_nowhere))]
+#[tactic(auto, using(js_frames::proofs::EndLemmas::goes_on, js_frames::proofs::EndLemmas::goes_nowhere))]
 pub(crate) fn run<V: View, C: Code>(
     machine: &mut Machine,
     alloc: Global,
@@ -251,7 +304,7 @@ pub(crate) fn run<V: View, C: Code>(
     ensures { IfOk result (λ y. Goes (record { names = V.names view.now; view = V.seen view.now }) (C.meaning code.now) (C.tables code.now) here.old here.new (standing machine.old) first (standing machine.new) y) }
 {
     let mut next = first;
-    'moves: for _ in 0..MOST {
+    'moves: for _ in 0..u64::MAX {
         if has_ended(&next) {
             break;
         }

@@ -3,36 +3,19 @@
 ghost use Rattle.std.specs.Prelude.{◌≡◌, ◌∷◌, [], IfOk};
 ghost use Rattle.qml_syntax.specs.Opened.{node_of};
 ghost use Rattle.js_meaning.specs.Locals.{lets_of, vars_of_all};
-ghost use Rattle.js_subset.specs.Laid.{laid, is_expr_node, stmts_in};
-ghost use Rattle.js_subset.specs.Scopes.{scopes_of};
-ghost use Rattle.js_subset.specs.Gathering.{row_from};
-ghost use Rattle.js_subset.specs.Stepping.{Starts, StartsIf, kind_of};
+ghost use Rattle.js_locals.specs.Laid.{laid, is_expr_node, stmts_in};
+ghost use Rattle.js_locals.specs.Scopes.{scopes_of};
+ghost use Rattle.js_locals.specs.Gathering.{row_from};
+ghost use Rattle.js_frames.specs.Stepping.{Starts, StartsIf, kind_of};
 
 use crate::calling::body_locals;
-use crate::frames::Next;
-use crate::gathering::row_behind;
-use crate::locals::Locals;
-use crate::parts::{first_part, is_expression, next_part, node_at};
 use evaluation::Evaluated;
+use js_frames::{Kind, Next};
+use js_locals::{Locals, first_part, is_expression, next_part, node_at, row_behind};
 use qml_syntax::{Node, Tree};
 use qml_text::NoMemory;
 use qml_value::Value;
 use std::alloc::Global;
-
-/// What a whole text is.
-#[derive(Clone, Copy)]
-pub enum Kind {
-    /// An expression.
-    Expression,
-    /// An expression that is a statement.
-    Statement,
-    /// Another statement.
-    Other,
-    /// Statements as a body.
-    Body,
-    /// A document or a script file.
-    File,
-}
 
 /// What a whole text is.
 fn kind_of(node: &Node) -> Kind
@@ -50,7 +33,7 @@ fn kind_of(node: &Node) -> Kind
 }
 
 /// Begins the body whose node stands at a place.
-#[tactic(auto, using(crate::proofs::StartLemmas::body_starts))]
+#[tactic(auto, using(js_frames::proofs::StartLemmas::body_starts))]
 fn start_body(alloc: Global, tree: &Tree, at: usize) -> Result<(Locals, Next), NoMemory>
     ensures { IfOk result (λ r. StartsIf (laid tree.now) Kind.Body at r.0 r.1) }
 {
@@ -62,7 +45,7 @@ fn start_body(alloc: Global, tree: &Tree, at: usize) -> Result<(Locals, Next), N
 }
 
 /// Begins the statement whose node stands at a place.
-#[tactic(auto, using(crate::proofs::StartLemmas::other_starts))]
+#[tactic(auto, using(js_frames::proofs::StartLemmas::other_starts))]
 fn start_other(alloc: Global, tree: &Tree, at: usize) -> Result<(Locals, Next), NoMemory>
     ensures { IfOk result (λ r. StartsIf (laid tree.now) Kind.Other at r.0 r.1) }
 {
@@ -74,7 +57,7 @@ fn start_other(alloc: Global, tree: &Tree, at: usize) -> Result<(Locals, Next), 
 }
 
 /// Begins the text whose node stands at a place, with the locals that it has.
-#[tactic(auto, using(crate::proofs::StartLemmas::expression_starts, crate::proofs::StartLemmas::statement_starts, crate::proofs::StartLemmas::file_starts, crate::proofs::StartLemmas::starts_as))]
+#[tactic(auto, using(js_frames::proofs::StartLemmas::expression_starts, js_frames::proofs::StartLemmas::statement_starts, js_frames::proofs::StartLemmas::file_starts, js_frames::proofs::StartLemmas::starts_as))]
 pub(crate) fn start(alloc: Global, tree: &Tree, at: usize) -> Result<(Locals, Next), NoMemory>
     ensures { IfOk result (λ r. Starts (laid tree.now) at r.0 r.1) }
 {

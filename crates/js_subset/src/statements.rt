@@ -5,19 +5,18 @@ ghost use Rattle.qml_syntax.specs.Opened.{node_of};
 ghost use Rattle.js_meaning.specs.Operate.{counts};
 ghost use Rattle.js_meaning.specs.Locals.{Held, alive, is_var, is_let, lets_of, local};
 ghost use Rattle.js_meaning.specs.Eval.{most};
-ghost use Rattle.js_subset.specs.Laid.{laid, name_of, stmts_in, is_expr_node};
-ghost use Rattle.js_subset.specs.Scopes.{scopes_of};
-ghost use Rattle.js_subset.specs.Standing.{Standing, standing};
-ghost use Rattle.js_subset.specs.Statements.{Adds, Scoped, Puts, Writes, VarSets, VarLeaves, NoValue, VarBegins, Declares, Loops, ForParts, is_present, is_var_node, ForTests, ForLoops, ForUpdates, first_scope, ForDeclares, BeginsFor, Opens, RunsWith, plain_next, Runs, is_expr_stmt, RunsCounted, RunsBy, RunsAt, Rests, WhenOn, TestOn, ForTestOn, Takes};
+ghost use Rattle.js_locals.specs.Laid.{laid, name_of, stmts_in, is_expr_node, ForParts, is_present, is_var_node};
+ghost use Rattle.js_locals.specs.Scopes.{scopes_of};
+ghost use Rattle.js_frames.specs.Standing.{Standing, standing};
+ghost use Rattle.js_frames.specs.Statements.{Adds, Scoped, Puts, Writes, VarSets, VarLeaves, NoValue, VarBegins, Declares, Loops, ForTests, ForLoops, ForUpdates, first_scope, ForDeclares, BeginsFor, Opens, RunsWith, plain_next, Runs, is_expr_stmt, RunsCounted, RunsBy, RunsAt, Rests, WhenOn, TestOn, ForTestOn, Takes};
 
-use crate::frames::{Frame, Next};
-use crate::gathering::{first_names, let_names, row_behind};
-use crate::locals::{Local, Writable, declare, put, writable_in};
-use crate::looking::{name_of, threw};
-use crate::machine::Machine;
-use crate::parts::{first_part, is_expression, next_part, node_at};
-use crate::resuming::pushed;
+use js_frames::{Frame, Machine, Next};
+use js_locals::{
+    Local, Writable, declare, first_names, first_part, for_parts, is_expression, is_var,
+    is_var_node, let_names, name_of, next_part, node_at, put, row_behind, writable_in,
+};
 use js_operators::truth;
+use js_steps::{pushed, threw};
 use qml_base::Cause;
 use qml_syntax::{Declaration, Node, Tree};
 use qml_text::{NoMemory, Text};
@@ -38,7 +37,7 @@ fn added(machine: &mut Machine, frame: Frame, next: Next) -> Result<Next, NoMemo
 // ---- names that are declared
 
 /// Gives a local another value.
-#[tactic(auto, using(crate::proofs::ScopeLemmas::put_scopes))]
+#[tactic(auto, using(js_locals::proofs::ScopeLemmas::put_scopes))]
 fn puts(
     machine: &mut Machine,
     alloc: Global,
@@ -69,16 +68,6 @@ pub(crate) fn writes(
         Writable::Yes => puts(machine, alloc, tree, name, true, value, next),
         Writable::Readonly => Ok(threw(Cause::Readonly)),
         Writable::Nothing => Ok(threw(Cause::Name)),
-    }
-}
-
-/// Whether names are declared by `var`.
-pub(crate) fn is_var(kind: Declaration) -> bool
-    ensures { result ≡ is_var kind }
-{
-    match kind {
-        Declaration::Var => true,
-        Declaration::Let | Declaration::Const => false,
     }
 }
 
@@ -172,16 +161,6 @@ fn var_begun(
     }
 }
 
-/// Whether it is the node of a name that is declared.
-pub(crate) fn is_var_node(node: &Node) -> bool
-    ensures { result ≡ is_var_node node.now }
-{
-    match node {
-        Node::Var(_, _) => true,
-        _ => false,
-    }
-}
-
 /// Declares the names behind a place.
 pub(crate) fn declared(
     machine: &mut Machine,
@@ -216,22 +195,6 @@ pub(crate) fn looped(machine: &mut Machine, left: u32, test: usize) -> Result<Ne
     } else {
         pushed(machine, Frame::Test(left - 1, test), test)
     }
-}
-
-/// Where test, update and statement stand of the `for` that begins at a place.
-pub(crate) fn for_parts(tree: &Tree, at: usize) -> Result<(usize, usize, usize), NoMemory>
-    ensures { IfOk result (λ p. ForParts (laid tree.now) at p.0 p.1 p.2) }
-{
-    let Some(test) = next_part(tree, at) else {
-        return Err(NoMemory);
-    };
-    let Some(update) = next_part(tree, test) else {
-        return Err(NoMemory);
-    };
-    let Some(body) = next_part(tree, update) else {
-        return Err(NoMemory);
-    };
-    Ok((test, update, body))
 }
 
 /// Whether it is the node of an expression that may be absent, and is there.
@@ -317,7 +280,7 @@ fn for_entered(machine: &mut Machine, tree: &Tree, at: usize) -> Result<Next, No
 }
 
 /// Opens the scope of a `for` that begins with names.
-#[tactic(auto, using(crate::proofs::ScopeLemmas::opened_scopes))]
+#[tactic(auto, using(js_locals::proofs::ScopeLemmas::opened_scopes))]
 fn for_declared(
     machine: &mut Machine,
     alloc: Global,
@@ -369,7 +332,7 @@ fn for_begun(
 // ---- statements
 
 /// Opens a block.
-#[tactic(auto, using(crate::proofs::ScopeLemmas::opened_scopes))]
+#[tactic(auto, using(js_locals::proofs::ScopeLemmas::opened_scopes))]
 fn opened(machine: &mut Machine, alloc: Global, tree: &Tree, mark: usize) -> Result<Next, NoMemory>
     ensures { IfOk result (λ y. Opens (laid tree.now) mark (standing machine.old) (standing machine.new) y) }
 {
@@ -561,33 +524,18 @@ fn for_test_on(
 fn looked_at(
     machine: &mut Machine,
     tree: &Tree,
-    frame: Frame,
+    frame: &Frame,
     value: &Value,
 ) -> Result<Next, NoMemory>
-    ensures { IfOk result (λ y. Takes (laid tree.now) frame value.now (standing machine.old) (standing machine.new) y) }
+    ensures { IfOk result (λ y. Takes (laid tree.now) frame.now value.now (standing machine.old) (standing machine.new) y) }
 {
     match frame {
         Frame::Dropped => Ok(Next::Done),
-        Frame::When(test) => {
-            let next = when_on(machine, tree, truth(value), test)?;
-            Ok(next)
-        }
-        Frame::Test(left, test) => {
-            let next = test_on(machine, tree, truth(value), left, test)?;
-            Ok(next)
-        }
-        Frame::ForFirst(at) => {
-            let next = for_entered(machine, tree, at)?;
-            Ok(next)
-        }
-        Frame::ForTest(left, at) => {
-            let next = for_test_on(machine, tree, truth(value), left, at)?;
-            Ok(next)
-        }
-        Frame::ForUpdate(left, at) => {
-            let next = for_looped(machine, tree, left, at)?;
-            Ok(next)
-        }
+        Frame::When(test) => when_on(machine, tree, truth(value), *test),
+        Frame::Test(left, test) => test_on(machine, tree, truth(value), *left, *test),
+        Frame::ForFirst(at) => for_entered(machine, tree, *at),
+        Frame::ForTest(left, at) => for_test_on(machine, tree, truth(value), *left, *at),
+        Frame::ForUpdate(left, at) => for_looped(machine, tree, *left, *at),
         _ => Err(NoMemory),
     }
 }
@@ -609,7 +557,7 @@ pub(crate) fn taken(
             Ok(next)
         }
         other => {
-            let next = looked_at(machine, tree, other, &value)?;
+            let next = looked_at(machine, tree, &other, &value)?;
             Ok(next)
         }
     }

@@ -2,20 +2,19 @@
 
 ghost use Rattle.std.specs.Prelude.{◌≡◌, ◌∷◌, IfOk};
 ghost use Rattle.js_meaning.specs.Eval.{most};
-ghost use Rattle.js_subset.specs.Laid.{laid};
-ghost use Rattle.js_subset.specs.Standing.{standing};
-ghost use Rattle.js_subset.specs.Statements.{Leaves, GoesOn, Gives, Stops, GoesAgain};
+ghost use Rattle.js_locals.specs.Laid.{laid};
+ghost use Rattle.js_frames.specs.Standing.{standing};
+ghost use Rattle.js_frames.specs.Statements.{Leaves, GoesOn, Gives, Stops, GoesAgain};
 
-use crate::frames::{Frame, Next};
-use crate::locals::leave;
-use crate::machine::Machine;
 use crate::statements::{MOST, for_looped, for_updated, looped};
+use js_frames::{Frame, Machine, Next};
+use js_locals::leave;
 use qml_syntax::Tree;
 use qml_text::NoMemory;
 use qml_value::Value;
 
 /// Leaves the innermost scope.
-#[tactic(auto, using(crate::proofs::ScopeLemmas::left_scopes))]
+#[tactic(auto, using(js_locals::proofs::ScopeLemmas::left_scopes))]
 fn left(machine: &mut Machine, tree: &Tree, next: Next) -> Next
     ensures { Leaves (laid tree.now) next (standing machine.old) (standing machine.new) result }
 {
@@ -25,40 +24,19 @@ fn left(machine: &mut Machine, tree: &Tree, next: Next) -> Next
 }
 
 /// Goes on behind a statement.
-pub(crate) fn goes_on(machine: &mut Machine, tree: &Tree, frame: Frame) -> Result<Next, NoMemory>
-    ensures { IfOk result (λ y. GoesOn (laid tree.now) frame (standing machine.old) (standing machine.new) y) }
+pub(crate) fn goes_on(machine: &mut Machine, tree: &Tree, frame: &Frame) -> Result<Next, NoMemory>
+    ensures { IfOk result (λ y. GoesOn (laid tree.now) frame.now (standing machine.old) (standing machine.new) y) }
 {
     match frame {
-        Frame::Row(part) => Ok(Next::Rest(part)),
+        Frame::Row(part) => Ok(Next::Rest(*part)),
         Frame::Scope => Ok(left(machine, tree, Next::Done)),
-        Frame::Round(rounds, test) => {
-            let next = looped(machine, rounds, test)?;
-            Ok(next)
-        }
-        Frame::ForStart(at) => {
-            let next = for_looped(machine, tree, MOST, at)?;
-            Ok(next)
-        }
+        Frame::Round(rounds, test) => looped(machine, *rounds, *test),
+        Frame::ForStart(at) => for_looped(machine, tree, MOST, *at),
         Frame::ForRound(rounds, at) => {
-            let next = for_updated(machine, tree, rounds, at)?;
+            let next = for_updated(machine, tree, *rounds, *at)?;
             Ok(next)
         }
-        Frame::Chain(_, _, _)
-        | Frame::Right(_, _, _, _, _)
-        | Frame::Choose(_, _)
-        | Frame::Sign(_)
-        | Frame::First(_)
-        | Frame::Index(_, _)
-        | Frame::All(_, _, _)
-        | Frame::Dropped
-        | Frame::When(_)
-        | Frame::Test(_, _)
-        | Frame::ForFirst(_)
-        | Frame::ForTest(_, _)
-        | Frame::ForUpdate(_, _)
-        | Frame::Returned
-        | Frame::Var(_, _, _)
-        | Frame::Call(_, _, _) => Err(NoMemory),
+        _ => Err(NoMemory),
     }
 }
 
@@ -66,10 +44,10 @@ pub(crate) fn goes_on(machine: &mut Machine, tree: &Tree, frame: Frame) -> Resul
 pub(crate) fn gives(
     machine: &mut Machine,
     tree: &Tree,
-    frame: Frame,
+    frame: &Frame,
     value: Value,
 ) -> Result<Next, NoMemory>
-    ensures { IfOk result (λ y. Gives (laid tree.now) frame value (standing machine.old) (standing machine.new) y) }
+    ensures { IfOk result (λ y. Gives (laid tree.now) frame.now value (standing machine.old) (standing machine.new) y) }
 {
     match frame {
         Frame::Row(_) => Ok(Next::Give(value)),
@@ -81,8 +59,8 @@ pub(crate) fn gives(
 }
 
 /// Goes on behind a `break`.
-pub(crate) fn stops(machine: &mut Machine, tree: &Tree, frame: Frame) -> Result<Next, NoMemory>
-    ensures { IfOk result (λ y. Stops (laid tree.now) frame (standing machine.old) (standing machine.new) y) }
+pub(crate) fn stops(machine: &mut Machine, tree: &Tree, frame: &Frame) -> Result<Next, NoMemory>
+    ensures { IfOk result (λ y. Stops (laid tree.now) frame.now (standing machine.old) (standing machine.new) y) }
 {
     match frame {
         Frame::Row(_) => Ok(Next::Stop),
@@ -94,36 +72,21 @@ pub(crate) fn stops(machine: &mut Machine, tree: &Tree, frame: Frame) -> Result<
 }
 
 /// Goes on behind a `continue`.
-pub(crate) fn goes_again(machine: &mut Machine, tree: &Tree, frame: Frame) -> Result<Next, NoMemory>
-    ensures { IfOk result (λ y. GoesAgain (laid tree.now) frame (standing machine.old) (standing machine.new) y) }
+pub(crate) fn goes_again(
+    machine: &mut Machine,
+    tree: &Tree,
+    frame: &Frame,
+) -> Result<Next, NoMemory>
+    ensures { IfOk result (λ y. GoesAgain (laid tree.now) frame.now (standing machine.old) (standing machine.new) y) }
 {
     match frame {
         Frame::Row(_) => Ok(Next::Again),
         Frame::Scope => Ok(left(machine, tree, Next::Again)),
-        Frame::Round(rounds, test) => {
-            let next = looped(machine, rounds, test)?;
-            Ok(next)
-        }
+        Frame::Round(rounds, test) => looped(machine, *rounds, *test),
         Frame::ForRound(rounds, at) => {
-            let next = for_updated(machine, tree, rounds, at)?;
+            let next = for_updated(machine, tree, *rounds, *at)?;
             Ok(next)
         }
-        Frame::Chain(_, _, _)
-        | Frame::Right(_, _, _, _, _)
-        | Frame::Choose(_, _)
-        | Frame::Sign(_)
-        | Frame::First(_)
-        | Frame::Index(_, _)
-        | Frame::All(_, _, _)
-        | Frame::Dropped
-        | Frame::When(_)
-        | Frame::Test(_, _)
-        | Frame::ForFirst(_)
-        | Frame::ForTest(_, _)
-        | Frame::ForUpdate(_, _)
-        | Frame::Returned
-        | Frame::Var(_, _, _)
-        | Frame::ForStart(_)
-        | Frame::Call(_, _, _) => Err(NoMemory),
+        _ => Err(NoMemory),
     }
 }

@@ -1,6 +1,6 @@
-use Rattle.js_subset.specs.Laid.{laid, stmts_in}
-use Rattle.js_subset.specs.Gathering.{row_from}
-use Rattle.js_subset.proofs.ScopeLemmas.{laid_scopes}
+use Rattle.js_locals.specs.Laid.{laid, stmts_in}
+use Rattle.js_locals.specs.Gathering.{row_from}
+use Rattle.js_locals.proofs.ScopeLemmas.{laid_scopes}
 use Rattle.js_subset.proofs.calling.body_locals.Goals as goal
 
 pub returns : goal.returns

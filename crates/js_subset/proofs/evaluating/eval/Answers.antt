@@ -1,5 +1,5 @@
 use Rattle.std.proofs.Common.{refl}
-use Rattle.js_subset.proofs.EndLemmas.{evaluates}
+use Rattle.js_frames.proofs.EndLemmas.{evaluates}
 use Rattle.js_subset.proofs.evaluating.eval.Goals as goal
 
 pub returns-clause-answers : goal.returns-clause-answers

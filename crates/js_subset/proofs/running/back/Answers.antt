@@ -1,9 +1,9 @@
 use Rattle.std.proofs.Common.{List, subst, sym}
-use Rattle.js_subset.specs.declared.frames.Frame.{Frame}
-use Rattle.js_subset.specs.declared.frames.Next.TheVariants as next
-use Rattle.js_subset.specs.Laid.{laid}
-use Rattle.js_subset.specs.Standing.{standing}
-use Rattle.js_subset.specs.Stepping.{GoesAt}
+use Rattle.js_frames.specs.declared.frames.Frame.{Frame}
+use Rattle.js_frames.specs.declared.frames.Next.TheVariants as next
+use Rattle.js_locals.specs.Laid.{laid}
+use Rattle.js_frames.specs.Standing.{standing}
+use Rattle.js_frames.specs.Stepping.{GoesAt}
 use Rattle.js_subset.proofs.running.back.Goals as goal
 
 pub returns-in_ok-next-in-Some : goal.returns-in_ok-next-in-Some

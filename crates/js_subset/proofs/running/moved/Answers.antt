@@ -1,5 +1,5 @@
-use Rattle.js_subset.specs.Standing.{standing}
-use Rattle.js_subset.proofs.CallLemmas.{enters_when, done_when, given_when, stopped_when, repeated_when}
+use Rattle.js_frames.specs.Standing.{standing}
+use Rattle.js_frames.proofs.CallLemmas.{enters_when, done_when, given_when, stopped_when, repeated_when}
 use Rattle.js_subset.proofs.running.moved.Goals as goal
 
 pub returns-in_ok-next-in-Enter : goal.returns-in_ok-next-in-Enter

@@ -1,9 +1,9 @@
 use Rattle.std.proofs.Common.{sym}
-use Rattle.js_subset.specs.Laid.{laid}
-use Rattle.js_subset.specs.Meant.{World}
-use Rattle.js_subset.specs.Standing.{standing}
-use Rattle.js_subset.specs.declared.frames.Next.TheVariants as next
-use Rattle.js_subset.proofs.EndLemmas.{of_next, begun_at, steps_at, signs_at, args_at, runs_at, rests_at, vars_at}
+use Rattle.js_locals.specs.Laid.{laid}
+use Rattle.js_frames.specs.Meant.{World}
+use Rattle.js_frames.specs.Standing.{standing}
+use Rattle.js_frames.specs.declared.frames.Next.TheVariants as next
+use Rattle.js_frames.proofs.EndLemmas.{of_next, begun_at, steps_at, signs_at, args_at, runs_at, rests_at, vars_at, targets_at, spot_at}
 use Rattle.js_subset.proofs.running.moved_within.Goals as goal
 
 pub returns-in-Begin : goal.returns-in-Begin
@@ -61,3 +61,19 @@ returns-in-Vars g c =
     let new = standing c.declared.new.machine in
     of_next w (laid c.args.tree.now) c.args.home old new c.args.next (next.Vars c.in-Vars.kind c.in-Vars.part) c.in_ok-next-in-Vars.next c.in-Vars.is
     (vars_at w (laid c.args.tree.now) c.args.home c.in-Vars.kind c.in-Vars.part old new c.in_ok-next-in-Vars.next c.in_ok-next-in-Vars.ensures)
+
+pub returns-in-Targets : goal.returns-in-Targets
+returns-in-Targets g c =
+    let w : World = record { names = g.V.View.names c.args.view.now; view = g.V.View.seen c.args.view.now } in
+    let old = standing c.args.machine.now in
+    let new = standing c.targets.new.machine in
+    of_next w (laid c.args.tree.now) c.args.home old new c.args.next (next.Targets c.in-Targets.at) c.in_ok-next-in-Targets.next c.in-Targets.is
+    (targets_at w (laid c.args.tree.now) c.args.home c.in-Targets.at old new c.in_ok-next-in-Targets.next c.in_ok-next-in-Targets.ensures)
+
+pub returns-in-Spot : goal.returns-in-Spot
+returns-in-Spot g c =
+    let w : World = record { names = g.V.View.names c.args.view.now; view = g.V.View.seen c.args.view.now } in
+    let old = standing c.args.machine.now in
+    let new = standing c.spot.new.machine in
+    of_next w (laid c.args.tree.now) c.args.home old new c.args.next (next.Spot c.in-Spot.at) c.in_ok-next-in-Spot.next c.in-Spot.is
+    (spot_at w (laid c.args.tree.now) c.args.home c.in-Spot.at old new c.in_ok-next-in-Spot.next c.in_ok-next-in-Spot.ensures)

@@ -1,4 +1,4 @@
-use Rattle.js_subset.proofs.EndLemmas.{goes_on}
+use Rattle.js_frames.proofs.EndLemmas.{goes_on}
 use Rattle.js_subset.proofs.running.run.Goals as goal
 
 pub moves-preserved : goal.moves-preserved

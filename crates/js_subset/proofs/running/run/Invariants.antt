@@ -1,5 +1,5 @@
-use Rattle.js_subset.specs.Standing.{standing}
-use Rattle.js_subset.specs.Stepping.{Goes}
+use Rattle.js_frames.specs.Standing.{standing}
+use Rattle.js_frames.specs.Stepping.{Goes}
 use Rattle.js_subset.proofs.running.run.Given as goal
 
 abbrev pub invariant-moves : goal.invariant-moves

@@ -1,5 +1,5 @@
 use Rattle.std.proofs.Common.{ap, map}
-use Rattle.js_subset.specs.Laid.{laid, name_of}
+use Rattle.js_locals.specs.Laid.{laid, name_of}
 use Rattle.eval_tests.proofs.plain.Function.names.Goals as goal
 
 pub returns : goal.returns

@@ -1,0 +1,11 @@
+pub mod ToldLemmas
+pub mod GoesLemmas
+pub mod BeginLemmas
+pub mod StepLemmas
+pub mod ArgumentLemmas
+pub mod StatementLemmas
+pub mod BoundLemmas
+pub mod SpotLemmas
+pub mod CallLemmas
+pub mod StartLemmas
+pub mod EndLemmas

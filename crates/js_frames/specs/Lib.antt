@@ -1,0 +1,7 @@
+pub mod Awaiting
+pub mod Standing
+pub mod Meant
+pub mod Moves
+pub mod Statements
+pub mod Spots
+pub mod Stepping

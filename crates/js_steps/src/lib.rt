@@ -1,0 +1,15 @@
+//! The moves of evaluation at expressions: what each node that is begun, each frame that awaits a value and each step becomes.
+//! Each function moves the machine as a relation of `js_frames` says, or answers want of memory.
+#![tactic(auto)]
+
+mod beginning;
+mod finishing;
+mod looking;
+mod resuming;
+mod stepping;
+
+pub use beginning::{begun, is_name, signs, steps_by};
+pub use finishing::arguments;
+pub use looking::{element, found_value, local_value, member, name_value, next_of, threw};
+pub use resuming::{pushed, resumed};
+pub use stepping::stepped;

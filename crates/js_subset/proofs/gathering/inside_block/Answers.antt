@@ -1,6 +1,0 @@
-use Rattle.js_subset.specs.Laid.{laid}
-use Rattle.js_subset.proofs.GatheringLemmas.{block_when}
-use Rattle.js_subset.proofs.gathering.inside_block.Goals as goal
-
-pub returns-in-Some : goal.returns-in-Some
-returns-in-Some c = block_when (laid c.args.tree.now) c.args.var c.args.at c.in-Some.mark c.row_behind.result c.if-var.true c.in-Some.ensures c.row_behind.ensures

@@ -1,9 +1,0 @@
-use Rattle.std.proofs.Common.{◌≡◌, length}
-use Rattle.js_subset.specs.Scopes.{outer}
-use Rattle.js_subset.proofs.locals.leave.Given as goal
-
-abbrev pub invariant-locals : goal.invariant-locals
-invariant-locals l = outer l.locals ≡ outer l.fn.locals
-
-abbrev pub decreases-locals : goal.decreases-locals
-decreases-locals l = length l.locals
