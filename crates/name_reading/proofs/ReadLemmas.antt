@@ -16,7 +16,8 @@ use Rattle.document_imports.specs.Imports.{row_of, a_script, a_directory}
 use Rattle.type_search.specs.Search.{Exists}
 use Rattle.type_search.proofs.SearchLemmas.{search_finds}
 use Rattle.name_reading.specs.NamesRead.{fault_of_source, fault_of_row, script_of_source, script_of_row, scripts_of, found_use, place_of_use, file_of, uses_read, names_by, names_read}
-use Rattle.name_reading.specs.Whole.{is_file, has_too_many}
+use Rattle.document_counts.specs.Counts.{has_too_many}
+use Rattle.name_reading.specs.Whole.{is_file}
 
 -- ---- the definition, in parts
 
