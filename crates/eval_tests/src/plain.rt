@@ -1,9 +1,9 @@
 //! One parsed text and a small world, over which tests evaluate.
 
 ghost use Rattle.std.specs.Prelude.{◌≡◌, map};
-ghost use Rattle.qml_syntax.specs.Opened.{root_of};
 ghost use Rattle.qml_syntax.specs.Places.{part_at};
 ghost use Rattle.js_locals.specs.Laid.{laid, name_of};
+ghost use Rattle.js_locals.specs.Texts.{StandsAs};
 ghost use Rattle.eval_tests.specs.Plain.{seen_at, found_cell, is_global, found_other, plain_names, code_of, table_at, text_in};
 
 use evaluation::{Seen, View};
@@ -33,7 +33,7 @@ impl Function {
 
 /// Where the whole text of a tree stands.
 fn root_place(tree: &Tree) -> usize
-    ensures { part_at tree.now result ≡ root_of (text_in tree.now) }
+    ensures { StandsAs (text_in tree.now) (part_at tree.now result) }
 {
     tree.root()
 }
@@ -96,13 +96,13 @@ impl Code for OneText {
         }
     }
 
-    fn statements(&self, function: ExprNo) -> usize {
+    fn statements(&self, function: ExprNo) -> Option<usize> {
         if function.at == 0 {
-            0
+            Some(0)
         } else if function.at == 1 {
-            self.first.mark
+            Some(self.first.mark)
         } else {
-            self.second.mark
+            Some(self.second.mark)
         }
     }
 }

@@ -30,7 +30,7 @@ const HOME: Home = Home {
 };
 
 /// Expressions; what they come to, with the cells that they read.
-const EXPRESSIONS: [(&str, &str); 142] = [
+const EXPRESSIONS: [(&str, &str); 184] = [
     // whole numbers
     ("-7 % 3", "-1"),
     ("7 % -3", "1"),
@@ -43,6 +43,10 @@ const EXPRESSIONS: [(&str, &str); 142] = [
     ("-a", "-4 reads a"),
     ("+'1'", "Threw Kind"),
     ("~5", "-6"),
+    ("9007199254740991 + 1", "9007199254740992"),
+    ("-9007199254740992 - 1", "Past"),
+    ("null * 1", "Threw Kind"),
+    ("'1' - 1", "Threw Kind"),
     // rounding
     ("Math.floor(-7 / 2)", "-4"),
     ("Math.ceil(-7 / 2)", "-3"),
@@ -54,6 +58,8 @@ const EXPRESSIONS: [(&str, &str); 142] = [
     ("Math.min(3, a, 5)", "3 reads a"),
     ("Math.max(3, a)", "4 reads a"),
     ("Math.max()", "Threw Kind"),
+    ("Math.min()", "Threw Kind"),
+    ("Math.floor(3)", "3"),
     ("Math.sin(1)", "Threw Call"),
     // bits
     ("1 << 33", "2"),
@@ -62,15 +68,39 @@ const EXPRESSIONS: [(&str, &str); 142] = [
     ("2147483648 | 0", "-2147483648"),
     ("12 & 10", "8"),
     ("12 ^ 10", "6"),
+    ("1 << -1", "-2147483648"),
+    ("1 >>> 32", "1"),
+    ("true | 0", "Threw Kind"),
     // texts
     ("1 + 2 + 'a'", "'3a'"),
     ("'a' + 1 + 2", "'a12'"),
     ("'a' + [1, 2]", "'a1,2'"),
     ("'a' + null", "'anull'"),
+    ("'' + undefined", "'undefined'"),
+    ("'' + true", "'true'"),
+    ("'' + -12", "'-12'"),
+    (
+        "'' + [1, null, undefined, [2, {}]]",
+        "'1,,,2,[object Object]'",
+    ),
+    ("'' + item", "'#2'"),
+    ("'' + part", "'component #3'"),
     ("String(a)", "'4' reads a"),
     ("String()", "''"),
     ("1 + null", "Threw Kind"),
+    // what counts as true
+    ("undefined ? 1 : 2", "2"),
+    ("null ? 1 : 2", "2"),
+    ("false ? 1 : 2", "2"),
+    ("0 ? 1 : 2", "2"),
+    ("'' ? 1 : 2", "2"),
+    ("[] ? 1 : 2", "1"),
+    ("item ? 1 : 2", "1"),
     // equality and order
+    ("null == 0", "false"),
+    ("true == 1", "Threw Kind"),
+    ("[1] == [1]", "true"),
+    ("null < 1", "Threw Kind"),
     ("null == undefined", "true"),
     ("'1' == 1", "Threw Kind"),
     ("1 != 2", "true"),
@@ -119,6 +149,9 @@ const EXPRESSIONS: [(&str, &str); 142] = [
     ("'abc'[-1]", "undefined"),
     ("item['a']", "4 reads a"),
     ("a[null]", "Threw Kind reads a"),
+    ("[1, 2][-1]", "undefined"),
+    ("undefined[0]", "Threw Null"),
+    ("{ '3': 5 }[3]", "5"),
     ("Loader.Ready", "'Ready'"),
     ("Loader.Loading", "Threw Kind"),
     ("lib.a", "Threw Kind"),
@@ -175,6 +208,11 @@ const EXPRESSIONS: [(&str, &str); 142] = [
     ("[1, 2].slice(1, 0)", "[]"),
     ("[1].concat(2, [3, [4]], null).length", "5"),
     ("[1].concat(2, [3, 4])", "[1,2,3,4]"),
+    ("[1, 2].includes(2, -1)", "true"),
+    ("[1, 2].join()", "'1,2'"),
+    ("''.split(',').length", "1"),
+    ("'aXbX'.split('X')", "[a,b,]"),
+    ("'abc'.split('')", "[a,b,c]"),
     ("[1].map(2)", "Threw Call"),
     // what hidden cells hold
     ("item.itemAt(1)", "[1,11] reads rows"),
@@ -185,8 +223,16 @@ const EXPRESSIONS: [(&str, &str); 142] = [
     ("item.get('a')", "Threw Kind"),
     ("'a,b,c'.split(',', 2)", "[a,b]"),
     ("[1, null, [2, 3]].join('-')", "'1--2,3'"),
-    // not there yet
-    ("{ k: 1 }", "NoMemory"),
+    // fields
+    ("{}", "[object Object]"),
+    ("{ k: 1, 'm': 2 }.m", "2"),
+    ("{ k: 1 }.m", "undefined"),
+    ("{ k: a, m: later }", "Need later reads a later"),
+    ("{ k: 1, m: 2, k: 3 } === { k: 3, m: 2 }", "true"),
+    ("{ k: 1, m: 2 } === { m: 2, k: 1 }", "false"),
+    ("{ k: first('nest', 99) }", "[object Object]"),
+    ("{ k: [first('nest', 99)] }", "Threw Size"),
+    ("{ k: [first('nest', 99)], m: a, k: 1 }.k", "1 reads a"),
 ];
 
 /// The tokens of a source.
@@ -352,7 +398,7 @@ fn evaluates_each_expression(rt: HostRuntime) -> Result<(), Fail> {
 }
 
 /// Bodies, and what they come to.
-const BODIES: [(&str, &str); 62] = [
+const BODIES: [(&str, &str); 65] = [
     // what is given back
     ("return 1", "1"),
     ("return", "undefined"),
@@ -421,6 +467,10 @@ const BODIES: [(&str, &str); 62] = [
         "40",
     ),
     ("let i = 0; while (i < 5) i++; return i", "5"),
+    // values that grow
+    ("let s = 'ab'; while (true) s += s", "Threw Size"),
+    ("let x = [1]; while (true) x = [x]", "Threw Size"),
+    ("let x = 1; while (true) x = { k: x }", "Threw Size"),
     // assignments to what is outside, which are not done here
     ("a = 1", "Threw Call"),
     ("a = later", "Need later reads later"),
@@ -540,11 +590,16 @@ fn long_text<L: Ledger>(rt: &impl Abort, alloc: Global, blank: Blank) -> Result<
     source.push('\'')?;
     let line = evaluated(alloc, source.as_str(), &mut steps)?;
     assert_eq!(rt; line.as_str(), "Threw Size");
+    let mut split = String::from_str(alloc, "'")?;
+    split.push_str(units.as_str())?;
+    split.push_str("'.split('')")?;
+    let line = evaluated(alloc, split.as_str(), &mut steps)?;
+    assert_eq!(rt; line.as_str(), "Threw Size");
     Ok(())
 }
 
 #[test]
-fn doubles_no_text_past_the_weight(rt: HostRuntime) -> Result<(), Fail> {
+fn makes_nothing_past_the_weight(rt: HostRuntime) -> Result<(), Fail> {
     long_text::<Brand>(&rt, rt.alloc(), Blank::new(1))
 }
 

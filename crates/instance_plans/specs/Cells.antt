@@ -42,41 +42,41 @@ pub record MadeObject : Type 0 where
   pub elements : List (List (Units × Value))
   pub starts : Bool
 
-abbrev last_some : {A : Type 0} → List (Option A) → Option A
+abbrev pub last_some : {A : Type 0} → List (Option A) → Option A
 last_some [] = None
 last_some (x ∷ rest) = option_or (last_some rest) x
 
 module _ (units : AllRows) (live : Known) (plan : Plan) (given : List GivenCell) where
-  abbrev value_of_number : ℕ → Option Planned → Value
+  abbrev pub value_of_number : ℕ → Option Planned → Value
   value_of_number n (Some x) = value_at units plan.objects n
   value_of_number n None = value_of_live live (object_no n)
 
-  abbrev value_of_owner : Option ℕ → Value
+  abbrev pub value_of_owner : Option ℕ → Value
   value_of_owner None = Null
   value_of_owner (Some n) = value_of_number n (planned_at plan.objects n)
 
-  abbrev of_kind : PropKind → Content
+  abbrev pub of_kind : PropKind → Content
   of_kind (kind.List t) = list_of []
   of_kind k = plain (default_of k)
 
-  abbrev list_or : PropKind → Value → Content
+  abbrev pub list_or : PropKind → Value → Content
   list_or (kind.List t) v = list_of []
   list_or k v = plain v
 
   -- what a cell of the table holds until its content gives a value
-  abbrev held_first : Option ℕ → TypeCell → Content
+  abbrev pub held_first : Option ℕ → TypeCell → Content
   held_first owner cell = list_or cell.kind (first_value cell (value_of_owner owner))
 
   -- ---- cells
 
-  abbrev parent_of : Planned → Content
+  abbrev pub parent_of : Planned → Content
   parent_of x = plain (if not x.is_around && (row_at units x.unit x.object).is_child then value_of_owner x.owner else Null)
 
-  abbrev is_named : TypeCell → Units → Bool
+  abbrev pub is_named : TypeCell → Units → Bool
   is_named cell name = bytes_eq cell.name name
 
   -- what a cell of the table contains where nothing is given for it: `visible`, `enabled` and `count` have rules of their own
-  abbrev base_content : TypeNo → Planned → TypeCell → Content
+  abbrev pub base_content : TypeNo → Planned → TypeCell → Content
   base_content t x cell =
       if is_named cell (codes "count") then bound by_count (object_no x.number)
       else (if stands_on t no.Item && is_named cell (codes "visible") then bound by_visible (object_no x.number)
@@ -84,43 +84,43 @@ module _ (units : AllRows) (live : Known) (plan : Plan) (given : List GivenCell)
       else (if stands_on t no.Item && is_named cell (codes "parent") then parent_of x
       else held_first x.owner cell)))
 
-  abbrev content_at : ℕ → ℕ → Content → Content
+  abbrev pub content_at : ℕ → ℕ → Content → Content
   content_at n place otherwise =
       unwrap_or (option_or (given_in given (cell_no n place)) (anonymous units plan given (cell_no n place))) otherwise
 
-  abbrev table_cell : TypeNo → Planned → TypeCell → MadeCell
+  abbrev pub table_cell : TypeNo → Planned → TypeCell → MadeCell
   table_cell t x cell =
       record { kind = cell.kind; content = content_at x.number cell.place (base_content t x cell); first = held_first x.owner cell }
 
-  abbrev declared_cells : ℕ → ℕ → List CellRow → List MadeCell
+  abbrev pub declared_cells : ℕ → ℕ → List CellRow → List MadeCell
   declared_cells n place [] = []
   declared_cells n place (r ∷ rest) =
       record { kind = r.kind; content = content_at n place (of_kind r.kind); first = of_kind r.kind } ∷ declared_cells n (suc place) rest
 
-  abbrev delegate_cell : Value → MadeCell
+  abbrev pub delegate_cell : Value → MadeCell
   delegate_cell v = record { kind = kind.Var; content = plain v; first = plain Undefined }
 
   -- a Repeater's list of delegates is its last cell
-  abbrev list_cell : TypeNo → List MadeCell
+  abbrev pub list_cell : TypeNo → List MadeCell
   list_cell no.Repeater = record { kind = kind.Var; content = list_of []; first = list_of [] } ∷ []
   list_cell _ = []
 
-  abbrev rows_declared : Planned → List CellRow
+  abbrev pub rows_declared : Planned → List CellRow
   rows_declared x =
       let r = row_at units x.unit x.object in
       if x.is_around then [] else flat_map (λ u. (row_at units u 0).cells) (documents_of units r.of_type) ++ r.cells
 
-  abbrev cells_made : Planned → List Value → List MadeCell
+  abbrev pub cells_made : Planned → List Value → List MadeCell
   cells_made x delegates =
       let t = builtin_planned units x in
       map (table_cell t x) (cells_of t) ++ declared_cells x.number (length (cells_of t)) (rows_declared x) ++ map delegate_cell delegates ++ list_cell t
 
   -- ---- handlers, in the order of layers
 
-  abbrev handler_by : ℕ → HandlerRow → SignalRef × ExprNo
+  abbrev pub handler_by : ℕ → HandlerRow → SignalRef × ExprNo
   handler_by u h = (h.signal, record { unit = unit_no u; at = h.body })
 
-  abbrev handlers_made : Planned → List (SignalRef × ExprNo)
+  abbrev pub handlers_made : Planned → List (SignalRef × ExprNo)
   handlers_made x =
       let r = row_at units x.unit x.object in
       if x.is_around then []
@@ -128,30 +128,30 @@ module _ (units : AllRows) (live : Known) (plan : Plan) (given : List GivenCell)
 
   -- ---- what a Component holds, and whether an object has a start
 
-  abbrev held_in : ℕ → ℕ → Option (ℕ × ℕ)
+  abbrev pub held_in : ℕ → ℕ → Option (ℕ × ℕ)
   held_in u o = option_map (λ i. (u, i)) (row_at units u o).holds
 
-  abbrev held_by : Planned → Option (ℕ × ℕ)
+  abbrev pub held_by : Planned → Option (ℕ × ℕ)
   held_by x =
       let r = row_at units x.unit x.object in
       if x.is_around then Some (x.unit, x.object)
       else last_some (map (λ u. held_in u 0) (documents_of units r.of_type) ++ held_in x.unit x.object ∷ [])
 
-  abbrev is_some_list : Content → Bool
+  abbrev pub is_some_list : Content → Bool
   is_some_list (list_of (v ∷ vs)) = true
   is_some_list _ = false
 
   -- the place of `states` in an Item
-  abbrev states_place : ℕ
+  abbrev pub states_place : ℕ
   states_place = 11
 
-  abbrev has_states : Planned → Bool
+  abbrev pub has_states : Planned → Bool
   has_states x = stands_on (builtin_planned units x) no.Item && is_some_list (content_at x.number states_place (list_of []))
 
-  abbrev always_starts : TypeNo → Bool
+  abbrev pub always_starts : TypeNo → Bool
   always_starts t = list_any (same_type t) (no.Binding ∷ no.Connections ∷ no.Timer ∷ no.Repeater ∷ no.Loader ∷ no.Host ∷ [])
 
-  abbrev elements_made : Planned → List (List (List ℕ × Value))
+  abbrev pub elements_made : Planned → List (List (List ℕ × Value))
   elements_made x =
       let r = row_at units x.unit x.object in
       if x.is_around then [] else flat_map (λ u. (row_at units u 0).elements) (documents_of units r.of_type) ++ r.elements

@@ -43,12 +43,12 @@ pub record GivenCell : Type 0 where
 abbrev pub value_of_live : Known → ObjNo → Value
 value_of_live live o = if is_component live.told o then AComponent o else AnObject o
 
-abbrev or_around : Option ObjNo → Known → Value → Value
+abbrev pub or_around : Option ObjNo → Known → Value → Value
 or_around None live otherwise = otherwise
 or_around (Some o) live otherwise = value_of_live live o
 
 -- the object of an id in the instances around, with this many of them at most
-abbrev id_around : ℕ → Known → UnitNo → Option ObjNo → Units → Value
+abbrev pub id_around : ℕ → Known → UnitNo → Option ObjNo → Units → Value
 id_around zero live u root name = Null
 id_around (suc f) live u None name = Null
 id_around (suc f) live u (Some r) name = elim (instance_at live.instances u r) [
@@ -56,23 +56,23 @@ id_around (suc f) live u (Some r) name = elim (instance_at live.instances u r) [
   | Some s ↦ or_around (under s.ids name) live (id_around f live u s.enclosing name)
 ]
 
-abbrev or_outside : Option ℕ → AllRows → List Planned → Value → Value
+abbrev pub or_outside : Option ℕ → AllRows → List Planned → Value → Value
 or_outside (Some n) units objects otherwise = value_at units objects n
 or_outside None units objects otherwise = otherwise
 
-abbrev object_of_id : AllRows → Known → List Planned → PlannedInstance → Units → Value
+abbrev pub object_of_id : AllRows → Known → List Planned → PlannedInstance → Units → Value
 object_of_id units live objects s name =
     or_outside (option_and_then (number_in s.objects) (under (component_at units s.unit s.component).ids name)) units objects
     (id_around (suc (length live.instances)) live (unit_no s.unit) (option_map object_no s.enclosing) name)
 
 -- ---- what is given
 
-abbrev text_at : ℕ → ℕ → ℕ → ℕ → Rule
+abbrev pub text_at : ℕ → ℕ → ℕ → ℕ → Rule
 text_at u body scope author =
     by_text (record { unit = unit_no u; at = body }) (record { unit = unit_no u; scope = object_no scope; author = object_no author })
 
 module _ (units : AllRows) (live : Known) (plan : Plan) where
-  abbrev numbered_value : PlannedInstance → ℕ → Option Value
+  abbrev pub numbered_value : PlannedInstance → ℕ → Option Value
   numbered_value s o = option_map (value_at units plan.objects) (number_in s.objects o)
 
   -- what the object of a number gives by a row to the object of another
@@ -83,7 +83,7 @@ module _ (units : AllRows) (live : Known) (plan : Plan) where
   content_of s from to (some_objects os) = list_of (filter_map (numbered_value s) os)
   content_of s from to (an_id name) = plain (object_of_id units live plan.objects s name)
 
-  abbrev given_by : PlannedInstance → ℕ → ValueRow → List GivenCell
+  abbrev pub given_by : PlannedInstance → ℕ → ValueRow → List GivenCell
   given_by s from v = elim (number_of plan.instances s v.to) [
     | None ↦ []
     | Some n ↦ record { cell = cell_no n v.place; content = content_of s from n v.value } ∷ []
@@ -93,7 +93,7 @@ module _ (units : AllRows) (live : Known) (plan : Plan) where
   abbrev pub has_row : PlannedInstance → ℕ → Bool
   has_row s o = nat_eq o s.component || not (row_at units s.unit o).is_held
 
-  abbrev given_by_object : PlannedInstance → ℕ × ℕ → List GivenCell
+  abbrev pub given_by_object : PlannedInstance → ℕ × ℕ → List GivenCell
   given_by_object s at = if has_row s (at.0) then flat_map (given_by s (at.1)) (row_at units s.unit (at.0)).values else []
 
   -- what is given by a document comes before what the documents of its types give
@@ -108,27 +108,27 @@ given_in (x ∷ rest) c = if same_cell x.cell c then Some x.content else given_i
 -- ---- States without a name
 
 module _ (units : AllRows) (plan : Plan) (given : List GivenCell) where
-  abbrev is_unnamed : Value → Bool
+  abbrev pub is_unnamed : Value → Bool
   is_unnamed (AnObject o) = same_type no.State (builtin_at units plan.objects o.0) && is_none (given_in given (cell_no o.0 1))
   is_unnamed _ = false
 
-  abbrev name_cell_of : Value → CellNo
+  abbrev pub name_cell_of : Value → CellNo
   name_cell_of (AnObject o) = cell_no o.0 1
   name_cell_of _ = cell_no 0 0
 
   -- `anonymousState` and the place, from 1, among the States of a list that have no name
-  abbrev anonymous_from : ℕ → List Value → CellNo → Option Content
+  abbrev pub anonymous_from : ℕ → List Value → CellNo → Option Content
   anonymous_from n [] c = None
   anonymous_from n (v ∷ rest) c = elim (is_unnamed v) [
     | true ↦ if same_cell (name_cell_of v) c then Some (plain (Text (codes "anonymousState" ++ decimal n))) else anonymous_from (suc n) rest c
     | false ↦ anonymous_from n rest c
   ]
 
-  abbrev values_listed : Content → List Value
+  abbrev pub values_listed : Content → List Value
   values_listed (list_of vs) = vs
   values_listed _ = []
 
-  abbrev anonymous_in : List GivenCell → List CellNo → CellNo → Option Content
+  abbrev pub anonymous_in : List GivenCell → List CellNo → CellNo → Option Content
   anonymous_in [] seen c = None
   anonymous_in (x ∷ rest) seen c = elim (list_any (same_cell x.cell) seen) [
     | true ↦ anonymous_in rest seen c

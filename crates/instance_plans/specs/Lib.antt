@@ -4,3 +4,4 @@ pub mod NamesMade
 pub mod Cells
 pub mod Changes
 pub mod Plans
+pub mod Treed

@@ -52,31 +52,31 @@ pub record NameMade : Type 0 where
   pub writable : Bool
   pub is_alias : Bool
 
-abbrev name_made : Units → Found → Bool → Bool → NameMade
+abbrev pub name_made : Units → Found → Bool → Bool → NameMade
 name_made name found writable is_alias = record { name = name; found = found; writable = writable; is_alias = is_alias }
 
 -- the hidden cell that a method reads: `get` that of the rows, `itemAt` that of the delegates behind all others
-abbrev hidden_cell : ℕ → ℕ → Units → Option CellNo
+abbrev pub hidden_cell : ℕ → ℕ → Units → Option CellNo
 hidden_cell n cells name =
     if bytes_eq name (codes "itemAt") then Some (cell_no n cells)
     else (if bytes_eq name (codes "get") then Some (cell_no n 2) else None)
 
 module _ (units : AllRows) (live : Known) (plan : Plan) where
-  abbrev found_object : ℕ → Found
+  abbrev pub found_object : ℕ → Found
   found_object n = if is_component_at units plan.objects n then finds.Component (object_no n) else finds.Object (object_no n)
 
-  abbrev aliased_cell : Units → ℕ → Bool → ℕ → NameMade
+  abbrev pub aliased_cell : Units → ℕ → Bool → ℕ → NameMade
   aliased_cell name place writable m = name_made name (finds.Cell (cell_no m place)) writable true
 
-  abbrev aliased_object : Units → ℕ → NameMade
+  abbrev pub aliased_object : Units → ℕ → NameMade
   aliased_object name m = name_made name (found_object m) false true
 
-  abbrev list_of_option : {A : Type 0} → Option A → List A
+  abbrev pub list_of_option : {A : Type 0} → Option A → List A
   list_of_option None = []
   list_of_option (Some a) = a ∷ []
 
   -- a name of the object of a number with so many cells, declared in an instance of a document
-  abbrev made_by : Option PlannedInstance → ℕ → ℕ → ℕ → NameRow → List NameMade
+  abbrev pub made_by : Option PlannedInstance → ℕ → ℕ → ℕ → NameRow → List NameMade
   made_by s u n cells r = elim (r.finds) as (λ _. List NameMade) [
     | finds_cell place a ↦ name_made r.name (finds.Cell (cell_no n place)) (is_writable a) false ∷ []
     | finds_signal x parameters ↦ name_made r.name (finds.Signal (object_no n) (signal_no x)) false false ∷ []
@@ -87,17 +87,17 @@ module _ (units : AllRows) (live : Known) (plan : Plan) where
   ]
 
   -- the names of a built-in type
-  abbrev builtin_names : ℕ → ℕ → TypeNo → List NameMade
+  abbrev pub builtin_names : ℕ → ℕ → TypeNo → List NameMade
   builtin_names n cells t = flat_map (made_by None 0 n cells) (rows_of_type (flat_map names_of_type (lineage t)))
 
   -- those that the root of a document declares
-  abbrev names_of_document : ℕ → ℕ → ℕ → List NameMade
+  abbrev pub names_of_document : ℕ → ℕ → ℕ → List NameMade
   names_of_document n cells u = flat_map (made_by (planned_instance plan.instances u n) u n cells) (row_at units u 0).names
 
-  abbrev count_cells : TypeRef → ℕ
+  abbrev pub count_cells : TypeRef → ℕ
   count_cells t = length (cells_of (builtin_of units t)) + length (flat_map (λ u. (row_at units u 0).cells) (documents_of units t))
 
-  abbrev aliases_last : List NameMade → List NameMade
+  abbrev pub aliases_last : List NameMade → List NameMade
   aliases_last ns = filter (λ (n : NameMade). not n.is_alias) ns ++ filter (λ (n : NameMade). n.is_alias) ns
 
   -- how many cells an object as written has, its delegate names among them
@@ -117,18 +117,18 @@ module _ (units : AllRows) (live : Known) (plan : Plan) where
         flat_map (made_by (Some s) s.unit (at.1) cells) r.names)
   ]
 
-  abbrev with_found : NameMade → List ℕ × Found
+  abbrev pub with_found : NameMade → List ℕ × Found
   with_found n = (n.name, n.found)
 
   -- the delegate names are those of the first object
-  abbrev delegates_at : ℕ → ℕ → ℕ → ℕ
+  abbrev pub delegates_at : ℕ → ℕ → ℕ → ℕ
   delegates_at first count n = if nat_eq n first then count else 0
 
-  abbrev names_of_object : ℕ → ℕ → PlannedInstance → ℕ × ℕ → ObjectNames
+  abbrev pub names_of_object : ℕ → ℕ → PlannedInstance → ℕ × ℕ → ObjectNames
   names_of_object first delegates s at =
       record { object = object_no (at.1); names = map with_found (names_seen s at (delegates_at first delegates (at.1))) }
 
-  abbrev id_made : PlannedInstance → List ℕ × ℕ → Option (List ℕ × ObjNo)
+  abbrev pub id_made : PlannedInstance → List ℕ × ℕ → Option (List ℕ × ObjNo)
   id_made s i = option_map (λ n. (i.0, object_no n)) (number_in s.objects (i.1))
 
   abbrev pub names_of_instance : ℕ → ℕ → PlannedInstance → InstanceNames
@@ -153,10 +153,10 @@ with_delegates names (s ∷ rest) =
 
 -- ---- the names of a unit that belong to no object
 
-abbrev script_made : List ℕ × ℕ → List ℕ × Found
+abbrev pub script_made : List ℕ × ℕ → List ℕ × Found
 script_made x = (x.0, finds.Script (unit_no (x.1)))
 
-abbrev function_made : ℕ → List ℕ × ℕ → List ℕ × Found
+abbrev pub function_made : ℕ → List ℕ × ℕ → List ℕ × Found
 function_made u f = (f.0, finds.Body (record { unit = unit_no u; at = f.1 }) (object_no 0))
 
 -- they stand in an instance of their own, which has no object of a document

@@ -75,7 +75,7 @@ builtin_within (suc n) units (OfDocument u) = builtin_within n units (row_at uni
 abbrev pub builtin_of : AllRows → TypeRef → TypeNo
 builtin_of units t = builtin_within (suc (length units)) units t
 
-abbrev document_ref : ℕ → TypeRef
+abbrev pub document_ref : ℕ → TypeRef
 document_ref u = OfDocument (record { 0 = u })
 
 -- the types of an object, from its own to the lowest
@@ -156,17 +156,17 @@ planned_from units u r enclosing owner first =
 
 -- ---- numbers of what the rows name
 
-abbrev is_instance : ℕ → ℕ → PlannedInstance → Bool
+abbrev pub is_instance : ℕ → ℕ → PlannedInstance → Bool
 is_instance u n s = nat_eq s.unit u && nat_eq s.root n
 
 abbrev pub planned_instance : List PlannedInstance → ℕ → ℕ → Option PlannedInstance
 planned_instance instances u n = find (is_instance u n) instances
 
-abbrev behind_hop : List PlannedInstance → ℕ → ℕ × ℕ → Option ℕ
+abbrev pub behind_hop : List PlannedInstance → ℕ → ℕ × ℕ → Option ℕ
 behind_hop instances n hop =
     option_and_then (λ (s : PlannedInstance). number_in s.objects (hop.1)) (planned_instance instances (hop.0) n)
 
-abbrev through : List PlannedInstance → ℕ → List (ℕ × ℕ) → Option ℕ
+abbrev pub through : List PlannedInstance → ℕ → List (ℕ × ℕ) → Option ℕ
 through instances n [] = Some n
 through instances n (hop ∷ rest) = option_and_then (λ m. through instances m rest) (behind_hop instances n hop)
 

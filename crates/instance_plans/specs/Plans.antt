@@ -40,10 +40,10 @@ pub record Instance : Type 0 where
 
 -- ---- handed fields
 
-abbrev unless_writable : Access → Option FieldFault
+abbrev pub unless_writable : Access → Option FieldFault
 unless_writable a = if is_writable a then None else Some is_readonly
 
-abbrev fault_of_name : Option NameRow → Option FieldFault
+abbrev pub fault_of_name : Option NameRow → Option FieldFault
 fault_of_name None = Some no_such_name
 fault_of_name (Some r) = elim (r.finds) as (λ _. Option FieldFault) [
   | finds_cell place a ↦ unless_writable a
@@ -58,7 +58,7 @@ names_of_row units r =
     rows_of_type (flat_map names_of_type (lineage (builtin_of units r.of_type))) ++
     flat_map (λ u. (row_at units u 0).names) (documents_of units r.of_type) ++ r.names
 
-abbrev is_named : Units → NameRow → Bool
+abbrev pub is_named : Units → NameRow → Bool
 is_named name r = bytes_eq r.name name
 
 -- the first handed field that names no property or a readonly one
@@ -66,25 +66,25 @@ abbrev pub fault_of_fields : List NameRow → List (List ℕ × Value) → Optio
 fault_of_fields rows [] = None
 fault_of_fields rows (f ∷ rest) = option_or (fault_of_name (find (is_named (f.0)) rows)) (fault_of_fields rows rest)
 
-abbrev cell_to_fill : AllRows → Plan → CellNo → CellNo
+abbrev pub cell_to_fill : AllRows → Plan → CellNo → CellNo
 cell_to_fill units plan c = record { object = c.object; place = cell_given (builtin_at units plan.objects c.object.0) c.place }
 
-abbrev handed_to : AllRows → Plan → Value → Found → Option (CellNo × Value)
+abbrev pub handed_to : AllRows → Plan → Value → Found → Option (CellNo × Value)
 handed_to units plan v (finds.Cell c) = Some (cell_to_fill units plan c, v)
 handed_to units plan v _ = None
 
-abbrev cell_of_field : AllRows → Plan → List NameMade → List ℕ × Value → Option (CellNo × Value)
+abbrev pub cell_of_field : AllRows → Plan → List NameMade → List ℕ × Value → Option (CellNo × Value)
 cell_of_field units plan names f =
     option_and_then (λ (n : NameMade). handed_to units plan (f.1) n.found) (find (λ (n : NameMade). bytes_eq n.name (f.0)) names)
 
 -- ---- the plan
 
-abbrev root_instance : Plan → ℕ → ℕ → Option ℕ → ℕ → PlannedInstance
+abbrev pub root_instance : Plan → ℕ → ℕ → Option ℕ → ℕ → PlannedInstance
 root_instance plan u r enclosing first =
     unwrap_or (planned_instance plan.instances u first) (record { unit = u; component = r; root = first; enclosing = enclosing; objects = [] })
 
 module _ (units : AllRows) (live : Known) (plan : Plan) (given : List GivenCell) where
-  abbrev instance_made : ℕ → ℕ → ℕ → List (List ℕ × Value) → List (CellNo × Value) → Instance
+  abbrev pub instance_made : ℕ → ℕ → ℕ → List (List ℕ × Value) → List (CellNo × Value) → Instance
   instance_made u r first delegates handed =
       let delegate_names = map (λ (d : List ℕ × Value). d.0) delegates in
       let cells = delegate_cells first (count_of_object units live plan u r 0) delegate_names in
@@ -96,7 +96,7 @@ module _ (units : AllRows) (live : Known) (plan : Plan) (given : List GivenCell)
         changes = changes_made units live plan given names;
       }
 
-  abbrev unless_full : Bool → Instance → Result Instance PlanFault
+  abbrev pub unless_full : Bool → Instance → Result Instance PlanFault
   unless_full true made = Ok made
   unless_full false made = Err full
 

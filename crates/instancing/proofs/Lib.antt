@@ -1,2 +1,3 @@
 mod StackLemmas
 mod GrowthLemmas
+mod NumberLemmas

@@ -10,7 +10,7 @@ use Rattle.instance_plans.specs.declared.planned.PlannedInstance.{PlannedInstanc
 use Rattle.std.specs.declared.option.Option.{Option}
 use Rattle.std.specs.declared.option.Option.TheVariants.{None}
 use Rattle.unit_rows.specs.declared.unit.Unit.{Unit}
-use Rattle.instancing.specs.Seen.{all_seen}
+use Rattle.unit_rows.specs.Seen.{all_seen}
 use Rattle.instancing.specs.declared.numbers.Frame.{Frame}
 use Rattle.instancing.specs.Stack.{Open, resumed, begun, with_left, next_left, with_number, around, planned_in, added, plan_of}
 use Rattle.instancing.specs.Frames.{open_of, opens}

@@ -1,3 +1,3 @@
-pub mod Seen
 pub mod Stack
 pub mod Frames
+pub mod Numbered

@@ -3,7 +3,8 @@
 ghost use Rattle.std.specs.Prelude.{◌≡◌, ℕ, ◌<◌, ◌≤◌, ◌+◌, ◌^◌, ◌++◌, ◌∷◌, [], length, OnOk, IfOk, IfErr};
 ghost use Rattle.std.specs.Option.{option_and_then};
 ghost use Rattle.instance_plans.specs.Numbers.{AllRows, Plan as APlan, row_at, number_in, planned_from, inner_within};
-ghost use Rattle.instancing.specs.Seen.{all_seen};
+ghost use Rattle.unit_rows.specs.Seen.{all_seen};
+ghost use Rattle.instancing.specs.Numbered.{AreNumbered};
 ghost use Rattle.instancing.specs.Stack.{resumed, begun, with_left, next_left, with_number, around, planned_in, added, plan_of};
 ghost use Rattle.instancing.specs.Frames.{open_of, opens, plan_so_far, planned_now};
 ghost use Rattle.instancing.specs.declared.numbers.NumbersFault.TheVariants as fault;
@@ -398,6 +399,7 @@ pub fn plan_numbers(
     requires numbers { first + room ≤ 2 ^ 32 }
     ensures ok { IfOk result (λ n. plan_of first n.objects.items n.instances.items ≡ planned_from (all_seen units.now) unit object enclosing owner first) }
     ensures within { IfOk result (λ n. length n.objects.items ≤ room) }
+    ensures numbered { IfOk result (λ n. AreNumbered first n.objects.items) }
     ensures full { IfErr result (λ e. e ≡ fault.Full → room < length (planned_from (all_seen units.now) unit object enclosing owner first).objects) }
 {
     if room == 0 {

@@ -4,13 +4,13 @@ ghost use Rattle.std.specs.Prelude.{◌≡◌, nat_eq, slice_get, option_copied}
 ghost use Rattle.std.specs.List.{find};
 ghost use Rattle.unit_rows.specs.declared.unit.ComponentRow.{ComponentRow as ARow};
 ghost use Rattle.instance_plans.specs.Numbers.{row_at, rows_at, component_at};
-ghost use Rattle.instancing.specs.Seen.{all_seen};
+ghost use Rattle.unit_rows.specs.Seen.{all_seen};
 
 use qml_types::{TypeNo, TypeRef};
 use unit_rows::{ComponentRow, ObjectRow, Unit};
 
 /// The row of an object.
-fn object(units: &[Unit], u: u32, o: u32) -> Option<&ObjectRow>
+pub fn object(units: &[Unit], u: u32, o: u32) -> Option<&ObjectRow>
     ensures { option_copied result ≡ slice_get (rows_at (all_seen units.now) u).objects o }
 {
     match units.get(u as usize) {
@@ -62,7 +62,7 @@ fn with_root(components: &[ComponentRow], root: u32) -> Option<&ComponentRow>
 }
 
 /// The component of a document that has this root.
-fn component(units: &[Unit], u: u32, root: u32) -> Option<&ComponentRow>
+pub fn component(units: &[Unit], u: u32, root: u32) -> Option<&ComponentRow>
     ensures { option_copied result ≡ find (λ (c : ARow). nat_eq c.root root) (rows_at (all_seen units.now) u).components }
 {
     match units.get(u as usize) {

@@ -8,7 +8,7 @@ use qml_types::{TypeNo, TypeRef};
 use std::alloc::Global;
 use std::process::Abort;
 use std::test::Fail;
-use unit_rows::{ComponentRow, ObjectRow, Rows, Unit};
+use unit_rows::{ComponentRow, ObjectRow, Rows, Unit, UnitBodies};
 
 fn object(alloc: Global, of_type: TypeRef, owner: Option<u32>) -> ObjectRow {
     ObjectRow {
@@ -53,9 +53,7 @@ fn document(alloc: Global, of_type: TypeRef) -> Result<Unit, Fail> {
     Ok(Unit {
         objects,
         components,
-        tree: tree(alloc)?,
-        bodies: Rows::new(alloc),
-        bindings: Rows::new(alloc),
+        bodies: UnitBodies::new(alloc, tree(alloc)?, Vec::new(alloc), Vec::new(alloc))?,
         scripts: Rows::new(alloc),
         functions: Rows::new(alloc),
     })

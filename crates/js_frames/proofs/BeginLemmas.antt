@@ -6,22 +6,22 @@ use Rattle.qml_syntax.specs.declared.operators.Operator.{Operator}
 use Rattle.qml_syntax.specs.declared.operators.Prefix.{Prefix}
 use Rattle.qml_syntax.specs.declared.operators.Prefix.TheVariants as prefix
 use Rattle.std.proofs.Common.{Some}
-use Rattle.qml_syntax.specs.Tree.{Expr, name, number, text, literal, paren, list, fields, steps, bumped, signed, chain, choose, assign, Exprs, no_exprs, an_expr, Step, member, element, call, binding, Steps, no_steps, a_step, Signs, no_signs, a_sign, Links, no_links, a_link, Choices, no_choices, a_choice, Targets, no_targets, a_target, Stmt, empty, expr, block, declare, when, either, while, for, give, stop, again, nothing, just, no_first, first_expr, first_declare}
+use Rattle.qml_syntax.specs.Tree.{Expr, name, number, text, literal, paren, list, fields, steps, bumped, signed, chain, choose, assign, Exprs, no_exprs, an_expr, Fields, no_fields, a_field, Step, member, element, call, binding, Steps, no_steps, a_step, Signs, no_signs, a_sign, Links, no_links, a_link, Choices, no_choices, a_choice, Targets, no_targets, a_target, Stmt, empty, expr, block, declare, when, either, while, for, give, stop, again, nothing, just, no_first, first_expr, first_declare}
 use Rattle.qml_syntax.specs.Nodes.{Item, mark, of_expr, of_step, of_stmt, of_key, of_sign, of_link, of_choice, of_target, of_var, of_first, of_maybe, of_body, top_expr}
 use Rattle.qml_syntax.specs.declared.node.Node.{Node}
 use Rattle.qml_syntax.specs.declared.node.Node.TheVariants as node
-use Rattle.qml_syntax.specs.Opened.{node_of, parts_of, last_link, exprs_parts, steps_parts, signs_parts, links_parts, choices_parts, targets_parts}
+use Rattle.qml_syntax.specs.Opened.{node_of, parts_of, last_link, exprs_parts, fields_parts, steps_parts, signs_parts, links_parts, choices_parts, targets_parts}
 use Rattle.qml_syntax.specs.Listed.{last_sign}
 use Rattle.qml_value.specs.declared.value.Value.{Text}
 use Rattle.evaluation.specs.Ask.{Ask}
 use Rattle.js_meaning.specs.Operate.{counts, bounded, weighed, operate_prefix}
-use Rattle.js_meaning.specs.Rows.{list_value}
+use Rattle.js_meaning.specs.Rows.{list_value, fields_value}
 use Rattle.js_meaning.specs.Locals.{State, Scope}
 use Rattle.js_meaning.specs.Going.{Then, Around, throws, counted, given}
 use Rattle.js_meaning.specs.Looking.{added_by, name_value, added_by_prefix, prefixed_before, literal_value, last_prefix, prefixed, typed, typed_by, name_in}
 use Rattle.js_meaning.specs.Calling.{Before, a_value, a_name, before_value}
 use Rattle.js_meaning.specs.Assigning.{operator_of, bound_in, if_last, assigned_to, bumped_by}
-use Rattle.js_meaning.specs.Eval.{first_before, stepped_on, signed_by, eval_spot, eval, eval_all, linked, chosen, targeted}
+use Rattle.js_meaning.specs.Eval.{first_before, stepped_on, signed_by, eval_spot, eval, eval_all, eval_fields, linked, chosen, targeted}
 use Rattle.js_frames.specs.declared.frames.Frame.{Frame}
 use Rattle.js_frames.specs.declared.frames.Frame.TheVariants as frame
 use Rattle.js_frames.specs.declared.frames.Gives.TheVariants as gives
@@ -31,12 +31,12 @@ use Rattle.js_frames.specs.declared.frames.Next.TheVariants as next
 use Rattle.js_frames.specs.declared.frames.Purpose.TheVariants as purpose
 use Rattle.js_frames.specs.declared.frames.To.TheVariants as to
 use Rattle.js_locals.specs.Scopes.{scopes_of}
-use Rattle.js_locals.specs.Laid.{Laid, is_expr_node, name_at, is_name, is_bump, links_in, choices_in, last_in, steps_in, exprs_in}
+use Rattle.js_locals.specs.Laid.{Laid, is_expr_node, name_at, is_name, is_bump, links_in, choices_in, last_in, steps_in, exprs_in, fields_in}
 use Rattle.js_frames.specs.Standing.{Standing, with_frame, without_node, state_of, kept}
 use Rattle.js_frames.specs.Meant.{Aim, aim_in, steps_by, steps_then, bound_of, targets_then, Where, World, around_at, signs_then, then_of, told}
 use Rattle.js_frames.specs.Moves.{Turns, next_of, BeginsChain, BeginsSigned, BeginsSteps, Begins, BeginsCounted}
 use Rattle.js_frames.proofs.ToldLemmas.{on, turned, threw_on, pushed, told_next, state, counted_more, counted_none, counted_some}
-use Rattle.js_frames.proofs.GoesLemmas.{name_on, all_on}
+use Rattle.js_frames.proofs.GoesLemmas.{name_on, all_on, fields_on}
 use Rattle.js_locals.proofs.RowLemmas.{first_is, rest_is}
 use Rattle.js_locals.proofs.NodeLemmas.{expr_item}
 
@@ -49,6 +49,7 @@ begins_expr_node w c x (node.Text n p) at old new y h = refl
 begins_expr_node w c x (node.Literal l p) at old new y h = refl
 begins_expr_node w c x (node.Paren p) at old new y h = refl
 begins_expr_node w c x (node.List p b) at old new y h = refl
+begins_expr_node w c x (node.Fields p b) at old new y h = refl
 begins_expr_node w c x node.Steps at old new y h = refl
 begins_expr_node w c x (node.Signed f g p) at old new y h = refl
 begins_expr_node w c x (node.Chain f o p) at old new y h = refl
@@ -62,6 +63,10 @@ begins_expr_node w c x _ at old new y h = absurd h
 pub exprs_are : (es : Exprs) → exprs_in (exprs_parts es) ≡ es
 exprs_are no_exprs = refl
 exprs_are (an_expr e es) = ap (λ z. an_expr e z) (exprs_are es)
+
+fields_are : (fs : Fields) → fields_in (fields_parts fs) ≡ fs
+fields_are no_fields = refl
+fields_are (a_field q n p e fs) = ap (λ z. a_field q n p e z) (fields_are fs)
 
 pub steps_are : (is : Steps) → steps_in (steps_parts is) ≡ is
 steps_are no_steps = refl
@@ -281,7 +286,15 @@ begins_expr w c x (assign t g p ts v) at old new y ie h =
     ∙ ap (λ (f : State → Then → Ask). on w old (assigning a t g (bound_of (targets_parts ts v)) f (state_of c old) k)) (targets_are a ts v)
     ∙ ap (λ b. on w old (assigning a t g b (value_targeted a ts v) (state_of c old) k)) (bound_is ts v)
     ∙ ap (λ z. on w old z) (sym (counted_more (scopes_of c old.locals) old.left (λ s. assigning a t g (if_last ts (bound_in v)) (value_targeted a ts v) s k)))
-begins_expr w c x (fields p fs b) at old new y ie h = absurd h
+begins_expr w c x (fields p fs b) at old new y ie h =
+    let a : Around = around_at x in
+    let k : Then = then_of c x old.frames in
+    let go : Fields → State → Ask = λ z s. eval_fields a z [] s (λ vs t. given (weighed (fields_value vs)) t k) in
+    let parts : mark ∷ fields_parts fs ≡ c.item h.0 ∷ c.rest h.0 = sym (ap (λ i. parts_of i) ie) ∙ h.1 in
+    fields_on w c x [] h.0 old new y h.2
+    ∙ ap (λ z. on w old (go (fields_in z) (state_of c old))) (rest_is mark (c.item h.0) (fields_parts fs) (c.rest h.0) parts)
+    ∙ ap (λ z. on w old (go z (state_of c old))) (fields_are fs)
+    ∙ ap (λ z. on w old z) (sym (counted_more (scopes_of c old.locals) old.left (go fs)))
 
 begins_item : (w : World) (c : Laid) (x : Where) (at : ℕ) (old new : Standing) (y : Next)
     → Begins w c x.home (node_of (c.item at)) at old new y

@@ -8,7 +8,8 @@ use Rattle.qml_syntax.specs.declared.operators.Prefix.{Prefix}
 use Rattle.qml_syntax.specs.Nodes.{Table}
 use Rattle.qml_syntax.specs.Tree.{Whole}
 use Rattle.qml_syntax.specs.Places.{part_at}
-use Rattle.qml_syntax.specs.Opened.{node_of, root_of}
+use Rattle.qml_syntax.specs.Opened.{node_of}
+use Rattle.js_locals.specs.Texts.{StandsAs}
 use Rattle.qml_value.specs.declared.value.Value.{Value}
 use Rattle.evaluation.specs.declared.came.Came.TheVariants as came
 use Rattle.evaluation.specs.declared.came.Evaluated.{Evaluated}
@@ -134,7 +135,7 @@ ends_as w code tables h g ls z rs new y answer.NoMemory b k = no_answer w code t
 
 -- a whole evaluation
 pub evaluates : (w : World) (code : Code) (tables : ExprNo → Table) (h : Here) (t : Table) (at : ℕ) (ls : List Local) (z : Next) (rs new : List CellNo) (o : Evaluated) (whole : Whole)
-    → t ≡ tables h.text → part_at (tables h.text) at ≡ root_of whole → h.calls ≡ 100 → Starts (laid t) at ls z → EndsAs w code tables h ls z rs new o
+    → t ≡ tables h.text → StandsAs whole (part_at (tables h.text) at) → h.calls ≡ 100 → Starts (laid t) at ls z → EndsAs w code tables h ls z rs new o
     → Answers (heard w.names w.view (asks_whole code h.home h.text whole)) rs new o
 evaluates w code tables h t at ls z rs new o whole e p n s d =
     d.ends h.home.author (heard w.names w.view (asks_whole code h.home h.text whole))

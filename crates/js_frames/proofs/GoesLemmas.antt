@@ -1,5 +1,5 @@
 -- Each move changes nothing of what is heard in all.
-use Rattle.std.proofs.Common.{◌≡◌, ◌∙◌, ap, sym, inl, inr, ℕ, Bool as 𝔹, true, false, cond, if◌then◌else◌, List, [], ◌∷◌, codes, Option}
+use Rattle.std.proofs.Common.{◌≡◌, ◌∙◌, ap, sym, refl, inl, inr, ℕ, Bool as 𝔹, true, false, cond, if◌then◌else◌, List, [], ◌∷◌, codes, Option}
 use Rattle.qml_base.specs.declared.numbers.CellNo.{CellNo}
 use Rattle.qml_base.specs.declared.names.Found.{Found}
 use Rattle.qml_base.specs.declared.names.Found.TheVariants as found
@@ -7,19 +7,19 @@ use Rattle.qml_base.specs.declared.cause.Cause.TheVariants as cause
 use Rattle.qml_syntax.specs.declared.operators.Operator.{Operator}
 use Rattle.qml_syntax.specs.declared.node.Node.{Node}
 use Rattle.qml_syntax.specs.Tree.{Expr, Links}
-use Rattle.qml_syntax.specs.Nodes.{Item, top_expr}
+use Rattle.qml_syntax.specs.Nodes.{Item, of_key, top_expr}
 use Rattle.qml_syntax.specs.Opened.{node_of}
 use Rattle.qml_value.specs.declared.value.Value.{Value, Undefined, Null, Bool, Num, Text, List', Fields', Object, Component}
 use Rattle.evaluation.specs.Ask.{Ask, finds}
 use Rattle.js_meaning.specs.declared.rounding.Rounding.{Rounding}
 use Rattle.js_meaning.specs.Operate.{is_nothing, same_units, weighed}
-use Rattle.js_meaning.specs.Rows.{list_value, at_place}
+use Rattle.js_meaning.specs.Rows.{list_value, fields_value, put_field, at_place}
 use Rattle.js_meaning.specs.Methods.{method_of, math_method, text_from}
 use Rattle.js_meaning.specs.Locals.{State}
 use Rattle.js_meaning.specs.Going.{Then, Around, throws, given}
 use Rattle.js_meaning.specs.Looking.{name_value, found_value, found_member, member_of, element_of, decides, plain_member, at_number}
 use Rattle.js_meaning.specs.Calling.{hidden_part}
-use Rattle.js_meaning.specs.Eval.{eval, eval_all, linked, if_no_link, operate_by}
+use Rattle.js_meaning.specs.Eval.{eval, eval_all, eval_fields, linked, if_no_link, operate_by}
 use Rattle.js_frames.specs.declared.frames.Frame.TheVariants as frame
 use Rattle.js_frames.specs.declared.frames.Next.{Next}
 use Rattle.js_frames.specs.declared.frames.Next.TheVariants as next
@@ -28,10 +28,14 @@ use Rattle.js_frames.specs.declared.frames.Purpose.{Purpose}
 use Rattle.js_frames.specs.declared.frames.Purpose.TheVariants as purpose
 use Rattle.js_frames.specs.declared.frames.To.{To}
 use Rattle.js_frames.specs.declared.frames.To.TheVariants as to
-use Rattle.js_locals.specs.Laid.{Laid, links_in, exprs_in, name_of}
+use Rattle.js_locals.specs.Laid.{Laid, links_in, exprs_in, fields_in, name_at, name_of}
+use Rattle.js_locals.proofs.NodeLemmas.{key_item}
+use Rattle.js_fields.specs.declared.entries.Entry.{Entry}
+use Rattle.js_fields.specs.Entries.{fields_from}
+use Rattle.qml_value.specs.declared.value.Field.{Field}
 use Rattle.js_frames.specs.Standing.{Standing, with_frame, with_read, state_of}
 use Rattle.js_frames.specs.Meant.{aim_in, Where, World, around_at, all_then, then_of, told}
-use Rattle.js_frames.specs.Moves.{Turns, threw, next_of, arrive, arrive_ended, no_index, NameGives, FoundGives, MemberGives, MemberOf, ElementOf, PartGives, Finishes, AllFrom, LinkOn, ChainOn, RightOn}
+use Rattle.js_frames.specs.Moves.{Turns, threw, next_of, arrive, arrive_ended, no_index, NameGives, FoundGives, MemberGives, MemberOf, ElementOf, PartGives, Finishes, AllFrom, FieldsFrom, LinkOn, ChainOn, RightOn}
 use Rattle.js_frames.proofs.ToldLemmas.{on, turned, threw_on, pushed, goal_of, told_threw, told_arrive, arrived, told_ended, told_next, told_if, read_on, part_seen_as, local_on}
 
 -- ---- names, members and elements
@@ -135,6 +139,29 @@ all_on w c x what vs p old new y h = elim h [
   | inl l ↦ finished_on w c x what vs old new y l.1 ∙ ap (λ z. on w old (row_then c x what vs z old)) (sym l.0)
   | inr r ↦ pushed w c x (frame.All what vs r.0) r.0 old new y r.2 ∙ ap (λ z. on w old (row_then c x what vs z old)) (sym r.1)
 ]
+
+-- fields, from what stands behind a part on
+abbrev pub fields_then : Laid → Where → List Field → List Item → Standing → Ask
+fields_then c x vs is m = eval_fields (around_at x) (fields_in is) vs (state_of c m) (λ ws t. given (weighed (fields_value ws)) t (then_of c x m.frames))
+
+pub fields_on : (w : World) (c : Laid) (x : Where) (es : List Entry) (p : ℕ) (old new : Standing) (y : Next)
+    → FieldsFrom c es p old new y → told w c x new y ≡ on w old (fields_then c x (fields_from c es) (c.rest p) old)
+fields_on w c x es p old new y h =
+    let vs : List Field = fields_from c es in
+    elim h [
+      | inl l ↦ turned w c x (next_of (weighed (fields_value vs))) old new y l.1 ∙ told_next w c x old (weighed (fields_value vs))
+          ∙ ap (λ z. on w old (fields_then c x vs z old)) (sym l.0)
+      | inr r ↦
+          (let k : ℕ = r.0 in
+          let q : ℕ = (r.2).0 in
+          let i : (f : 𝔹) × (n : List ℕ) × (s : _) × (c.item k ≡ of_key f n s) = key_item (node_of (c.item k)) (c.item k) refl (r.2).1 in
+          pushed w c x (frame.Field es k q) q old new y (r.2).3
+          ∙ ap (λ n. on w old (eval (around_at x) (top_expr (c.item q ∷ [])) (state_of c old) (λ v t. eval_fields (around_at x) (fields_in (c.rest q)) (put_field n v vs) t (λ ws u. given (weighed (fields_value ws)) u (then_of c x old.frames)))))
+          (ap (λ j. name_at (node_of j)) i.3)
+          ∙ ap (λ j. on w old (fields_then c x vs (j ∷ c.item q ∷ c.rest q) old)) (sym i.3)
+          ∙ ap (λ z. on w old (fields_then c x vs (c.item k ∷ z) old)) (sym (r.2).2)
+          ∙ ap (λ z. on w old (fields_then c x vs z old)) (sym r.1))
+    ]
 
 -- ---- chains
 

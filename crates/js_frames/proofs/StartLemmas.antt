@@ -1,5 +1,5 @@
 -- What is heard of a whole text is heard of what it begins with.
-use Rattle.std.proofs.Common.{◌≡◌, ◌∙◌, ap, sym, refl, subst, ℕ, Bool as 𝔹, true, false, cond, if◌then◌else◌, List, [], ◌∷◌, Option, Some, None}
+use Rattle.std.proofs.Common.{◌≡◌, ◌∙◌, ap, sym, refl, subst, ℕ, Bool as 𝔹, true, false, cond, if◌then◌else◌, List, [], ◌∷◌, Option, Some, None, inl, inr}
 use Rattle.qml_base.specs.declared.numbers.CellNo.{CellNo}
 use Rattle.qml_base.specs.declared.numbers.ObjNo.{ObjNo}
 use Rattle.qml_syntax.specs.declared.node.Node.{Node}
@@ -21,6 +21,7 @@ use Rattle.js_frames.specs.declared.kinds.Kind.TheVariants as kind
 use Rattle.js_locals.specs.Laid.{Laid, stmts_in, is_expr_node}
 use Rattle.js_locals.specs.Scopes.{scopes_of}
 use Rattle.js_frames.specs.Meant.{Where, World, after, told}
+use Rattle.js_locals.specs.Texts.{StandsAs}
 use Rattle.js_locals.specs.Gathering.{row_from}
 use Rattle.js_frames.specs.Stepping.{Starts, StartsIf, kind_of, other_kind}
 use Rattle.js_frames.proofs.ToldLemmas.{state, stopped}
@@ -37,6 +38,7 @@ kind_if false k h g = absurd (g h)
 other_not : (n : Node) → other_kind n ≡ kind.Expression → ⊥
 other_not (node.Expression e) h = cc
 other_not node.Body h = cc
+other_not (node.Binding p) h = cc
 other_not node.Document h = cc
 other_not (node.Script b) h = cc
 other_not _ h = cc
@@ -47,9 +49,20 @@ kind_expr n h = kind_if (is_expr_node n) (other_kind n) h (other_not n)
 expr_kind : (e : Expr) → kind_of (node_of (of_expr e)) ≡ kind.Expression
 expr_kind e = ap (λ (b : 𝔹). if b then kind.Expression else other_kind (node_of (of_expr e))) (expr_node_is e)
 
+kind_root : (t : Whole) (i : Item) → i ≡ root_of t → kind_of (node_of (root_of t)) ≡ kind_of (node_of i)
+kind_root t i e = ap (λ j. kind_of (node_of j)) (sym e)
+
+kind_stands : (t : Whole) (i : Item) → StandsAs t i → kind_of (node_of (root_of t)) ≡ kind_of (node_of i)
+kind_stands (whole_body ss) i (inl e) = kind_root (whole_body ss) i e
+kind_stands (whole_body ss) i (inr (p, e)) = ap (λ j. kind_of (node_of j)) (sym e)
+kind_stands (whole_expr e) i h = kind_root (whole_expr e) i h
+kind_stands (whole_stmt d) i h = kind_root (whole_stmt d) i h
+kind_stands (whole_document d) i h = kind_root (whole_document d) i h
+kind_stands (whole_script d) i h = kind_root (whole_script d) i h
+
 -- the kind of a text that stands at a place
-kind_at : (c : Laid) (at : ℕ) (k : Kind) (t : Whole) → c.item at ≡ root_of t → kind_of (node_of (c.item at)) ≡ k → kind_of (node_of (root_of t)) ≡ k
-kind_at c at k t e h = ap (λ i. kind_of (node_of i)) (sym e) ∙ h
+kind_at : (c : Laid) (at : ℕ) (k : Kind) (t : Whole) → StandsAs t (c.item at) → kind_of (node_of (c.item at)) ≡ k → kind_of (node_of (root_of t)) ≡ k
+kind_at c at k t e h = kind_stands t (c.item at) e ∙ h
 
 -- what is asked of an expression, begun as any author with any calls
 abbrev asked : Where → ObjNo → ℕ → Expr → Ask
@@ -84,13 +97,21 @@ no_expr_stmt (give r (just e) z) h = cc
 no_expr_stmt (stop r z) h = cc
 no_expr_stmt (again r z) h = cc
 
-expression_by : (w : World) (c : Laid) (rs : List CellNo) (x : Where) (at : ℕ) (t : Whole) → c.item at ≡ root_of t → kind_of (node_of (root_of t)) ≡ kind.Expression → x.calls ≡ 100 → x.author ≡ x.home.author
+expression_by : (w : World) (c : Laid) (rs : List CellNo) (x : Where) (at : ℕ) (t : Whole) → StandsAs t (c.item at) → kind_of (node_of (root_of t)) ≡ kind.Expression → x.calls ≡ 100 → x.author ≡ x.home.author
     → told w c x (record { frames = []; reads = rs; left = 100000; locals = [] }) (next.Begin at) ≡ hear w rs (asks_whole x.code x.home x.at t)
 expression_by w c rs x at (whole_expr e) i k n a = expr_text w c rs x at e i n a
 expression_by w c rs x at (whole_stmt d) i k n a = absurd (no_expr_stmt d k)
 expression_by w c rs x at (whole_body ss) i k n a = absurd (cc)
 expression_by w c rs x at (whole_document d) i k n a = absurd (cc)
 expression_by w c rs x at (whole_script (script b fs)) i k n a = absurd (cc)
+
+-- a text stands where its node does
+pub stands_by_node : (t : Whole) (i : Item) → i ≡ root_of t → StandsAs t i
+stands_by_node (whole_body ss) i e = inl e
+stands_by_node (whole_expr d) i e = e
+stands_by_node (whole_stmt d) i e = e
+stands_by_node (whole_document d) i e = e
+stands_by_node (whole_script d) i e = e
 
 pub expression_starts : (c : Laid) (at : ℕ) (n : Node) (ls : List Local) → n ≡ node_of (c.item at) → kind_of n ≡ kind.Expression → ls ≡ [] → Starts c at ls (next.Begin at)
 expression_starts c at n ls e k z = subst (λ (l : List Local). Starts c at l (next.Begin at)) (sym z)
@@ -114,7 +135,7 @@ inside_stmt w c rs x at q (give r (just e) z) i k f n a = absurd (cc)
 inside_stmt w c rs x at q (stop r z) i k f n a = absurd (cc)
 inside_stmt w c rs x at q (again r z) i k f n a = absurd (cc)
 
-statement_by : (w : World) (c : Laid) (rs : List CellNo) (x : Where) (at q : ℕ) (t : Whole) → c.item at ≡ root_of t → kind_of (node_of (root_of t)) ≡ kind.Statement → parts_of (c.item at) ≡ c.item q ∷ c.rest q
+statement_by : (w : World) (c : Laid) (rs : List CellNo) (x : Where) (at q : ℕ) (t : Whole) → StandsAs t (c.item at) → kind_of (node_of (root_of t)) ≡ kind.Statement → parts_of (c.item at) ≡ c.item q ∷ c.rest q
     → x.calls ≡ 100 → x.author ≡ x.home.author
     → told w c x (record { frames = []; reads = rs; left = 100000; locals = [] }) (next.Begin q) ≡ hear w rs (asks_whole x.code x.home x.at t)
 statement_by w c rs x at q (whole_expr e) i k f n a = absurd (let g : kind.Expression ≡ kind.Statement = sym (expr_kind e) ∙ k in cc)
@@ -154,11 +175,15 @@ no_body_stmt (give r (just e) z) h = cc
 no_body_stmt (stop r z) h = cc
 no_body_stmt (again r z) h = cc
 
-body_by : (w : World) (c : Laid) (rs : List CellNo) (x : Where) (at q : ℕ) (ls : List Local) (t : Whole) → c.item at ≡ root_of t → kind_of (node_of (root_of t)) ≡ kind.Body → parts_of (c.item at) ≡ c.item q ∷ c.rest q
+body_parts : (ss : Stmts) (i : Item) → StandsAs (whole_body ss) i → parts_of i ≡ mark ∷ stmts_parts ss
+body_parts ss i (inl e) = ap parts_of e
+body_parts ss i (inr (p, e)) = ap parts_of e
+
+body_by : (w : World) (c : Laid) (rs : List CellNo) (x : Where) (at q : ℕ) (ls : List Local) (t : Whole) → StandsAs t (c.item at) → kind_of (node_of (root_of t)) ≡ kind.Body → parts_of (c.item at) ≡ c.item q ∷ c.rest q
     → scopes_of c ls ≡ body_scopes (stmts_in (c.rest q)) → x.calls ≡ 100 → x.author ≡ x.home.author
     → told w c x (record { frames = []; reads = rs; left = 100000; locals = ls }) (next.Rest q) ≡ hear w rs (asks_whole x.code x.home x.at t)
 body_by w c rs x at q ls (whole_body ss) i k f s n a =
-    let parts : mark ∷ stmts_parts ss ≡ c.item q ∷ c.rest q = sym (ap (λ j. parts_of j) i) ∙ f in
+    let parts : mark ∷ stmts_parts ss ≡ c.item q ∷ c.rest q = sym (body_parts ss (c.item at) i) ∙ f in
     let rest : stmts_in (c.rest q) ≡ ss = ap (λ z. stmts_in z) (rest_is mark (c.item q) (stmts_parts ss) (c.rest q) parts) ∙ stmts_are ss in
     stmts_text w rs x (scopes_of c ls) ss (stmts_in (c.rest q)) rest s n a
 body_by w c rs x at q ls (whole_expr e) i k f s n a = absurd (let g : kind.Expression ≡ kind.Body = sym (expr_kind e) ∙ k in cc)
@@ -181,7 +206,7 @@ other_stmt w c rs x at ls d i k f s n a =
     ap (λ j. hear w rs (run (around x.code false x.author x.calls x.home x.at) (top_stmt (j ∷ [])) (state (scopes_of c ls) 100000) gives_back)) i
     ∙ stmts_text w rs x (scopes_of c ls) (a_stmt d no_stmts) (a_stmt d no_stmts) refl (s ∙ ap (λ z. body_scopes z) rows) n a
 
-other_by : (w : World) (c : Laid) (rs : List CellNo) (x : Where) (at : ℕ) (ls : List Local) (t : Whole) → c.item at ≡ root_of t → kind_of (node_of (root_of t)) ≡ kind.Other → c.rest at ≡ []
+other_by : (w : World) (c : Laid) (rs : List CellNo) (x : Where) (at : ℕ) (ls : List Local) (t : Whole) → StandsAs t (c.item at) → kind_of (node_of (root_of t)) ≡ kind.Other → c.rest at ≡ []
     → scopes_of c ls ≡ body_scopes (stmts_in (c.item at ∷ c.rest at)) → x.calls ≡ 100 → x.author ≡ x.home.author
     → told w c x (record { frames = []; reads = rs; left = 100000; locals = ls }) (next.Run at) ≡ hear w rs (asks_whole x.code x.home x.at t)
 other_by w c rs x at ls (whole_stmt (expr e r)) i k f s n a = absurd (cc)

@@ -21,7 +21,7 @@ use Rattle.js_frames.specs.declared.frames.Next.{Next}
 use Rattle.js_frames.specs.declared.frames.Next.TheVariants as next
 use Rattle.js_locals.specs.declared.locals.Local.{Local}
 use Rattle.js_locals.specs.declared.locals.Local.TheVariants as own
-use Rattle.js_locals.specs.Laid.{Laid, name_of, name_at, stmts_in, test_in, update_in, for_body_in, is_expr_node, is_var_node, ForParts, is_present}
+use Rattle.js_locals.specs.Laid.{Laid, name_of, name_at, stmts_in, test_in, update_in, for_body_in, is_expr_node, is_stmt_node, is_var_node, ForParts, is_present}
 use Rattle.js_locals.specs.Scopes.{scopes_of, writable_by}
 use Rattle.js_frames.specs.Standing.{Standing, with_frame, with_locals, without_node, state_of, kept}
 use Rattle.js_frames.specs.Meant.{Where, World, around_at, while_turn, for_turn, for_updated, var_set, var_left, vars_then, other_run, then_of, next_in, give_in, stop_in, again_in, exits_in, told}
@@ -31,7 +31,7 @@ use Rattle.js_frames.specs.Statements as m
 use Rattle.js_frames.specs.Statements.{Adds, Scoped, Puts, WritesBy, Writes, VarSets, VarLeaves, NoValue, VarBegins, Loops, ForTests, ForLoops, ForUpdatesBy, ForUpdates, first_scope, ForDeclares, BeginsFor, Opens, RunsWith, Runs, is_expr_stmt, RunsBy, Rests, WhenOn, TestOn, ForTestOn, Takes, Leaves, GoesOn, Gives, Stops, GoesAgain}
 use Rattle.js_frames.proofs.ToldLemmas.{on, turned, threw_on, pushed, state, counted_more, counted_none, counted_some}
 use Rattle.js_locals.proofs.RowLemmas.{stmts_are, stmt_alone_is, first_is, rest_is}
-use Rattle.js_locals.proofs.NodeLemmas.{expr_item, is_stmt_node, stmt_item, var_item, just_item}
+use Rattle.js_locals.proofs.NodeLemmas.{expr_item, stmt_item, var_item, just_item}
 
 -- ---- other frames and other locals
 

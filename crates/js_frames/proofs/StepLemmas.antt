@@ -45,8 +45,9 @@ use Rattle.js_frames.specs.Awaiting.{awaits_spot}
 use Rattle.js_frames.specs.Meant.{Aim, aim_in, spot_in, steps_by, Where, World, around_at, name_of_item, before_of, callee_of, signs_then, steps_then, behind_mark, then_of, told}
 use Rattle.js_frames.specs.Moves as m
 use Rattle.js_frames.specs.Moves.{ends_steps, is_spot, StepBy, SpotNext, ElementSpot, OperandBegins, Turns, threw, Pushes, arrive, ReadGives, FirstPart, ValueBefore, NamedMember, MemberOfName, MemberNext, ElementNext, called_at, method_called, NamedCallee, MemberCallee, ValueCallee, CalleeNext, StepNext, OtherChoice, ChooseOn, Resumes, FirstBy, RoundedFirst}
+use Rattle.js_fields.proofs.EntryLemmas.{added_entry}
 use Rattle.js_frames.proofs.ToldLemmas.{on, turned, threw_on, pushed, goal_of, told_threw, told_arrive, arrived, told_next, read_on, local_on, counted_none, counted_some}
-use Rattle.js_frames.proofs.GoesLemmas.{name_on, found_on, member_on, member_of_on, element_on, all_on, finished_on, chain_on, right_on}
+use Rattle.js_frames.proofs.GoesLemmas.{name_on, found_on, member_on, member_of_on, element_on, all_on, fields_on, fields_then, finished_on, chain_on, right_on}
 use Rattle.js_locals.proofs.RowLemmas.{first_is, rest_is}
 use Rattle.js_frames.proofs.BeginLemmas.{exprs_are, links_are, Named, a_name_is, no_name_is, named_or_not}
 use Rattle.js_locals.proofs.NodeLemmas.{made_of, expr_item, step_item}
@@ -464,6 +465,9 @@ resumed_on w c x (frame.Sign g) v old new y h = turned w c x (m.next_of (operate
 resumed_on w c x (frame.First p) v old new y h = turned w c x (next.Step (stands.Value v) p) old new y h
 resumed_on w c x (frame.Index l p) v old new y h = element_on w c x (to.Step p) l v old new y h
 resumed_on w c x (frame.All what vs p) v old new y h = all_on w c x what (vs ++ v ∷ []) p old new y h
+resumed_on w c x (frame.Field es k p) v old new y h =
+    fields_on w c x (es ++ record { name = k; value = v } ∷ []) p old new y h
+    ∙ ap (λ vs. on w old (fields_then c x vs (c.rest p) old)) (added_entry (λ u. u) c es (record { name = k; value = v }) [])
 resumed_on w c x _ v old new y h = absurd h
 
 -- ---- prefixes

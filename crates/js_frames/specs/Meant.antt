@@ -20,13 +20,13 @@ use Rattle.evaluation.specs.declared.came.Evaluated.TheVariants as answer
 use Rattle.evaluation.specs.Ask.{Ask, ended, Names}
 use Rattle.evaluation.specs.Hearing.{Views, Hearing, comes, needs, Heard, heard}
 use Rattle.js_meaning.specs.Operate.{bounded, counts, on_num, weighed, operate_prefix}
-use Rattle.js_meaning.specs.Rows.{list_value}
+use Rattle.js_meaning.specs.Rows.{list_value, fields_value, put_field}
 use Rattle.js_meaning.specs.Locals.{State, alive, local, enters, leaves, puts, is_var, is_let}
 use Rattle.js_meaning.specs.Going.{Then, Exits, Around, throws, given}
 use Rattle.js_meaning.specs.Assigning.{Spot, at_local, at_name, at_member, at_element, operator_of, written_local, written, updated, bumped_by, bound_in, assigned_to}
 use Rattle.js_meaning.specs.Looking.{added_by_prefix, name_in, typed_by, typed, element_of}
 use Rattle.js_meaning.specs.Calling.{Callee, of_body, of_signal, of_reading, of_doing, of_method, of_math, of_text, of_log, of_binding, of_nothing, Before, a_value, a_name, of_value, of_named, of_script, of_global, a_binding, before_value, called}
-use Rattle.js_meaning.specs.Eval.{Code, around, eval, eval_spot, spot_on, spot_of_step, stepped, signed_by, eval_all, eval_first, linked, if_no_link, operate_by, chosen, stepped_on, rounding_of, rounds, most, run, run_all, moved, tested}
+use Rattle.js_meaning.specs.Eval.{Code, around, eval, eval_spot, spot_on, spot_of_step, stepped, signed_by, eval_all, eval_fields, eval_first, linked, if_no_link, operate_by, chosen, stepped_on, rounding_of, rounds, most, run, run_all, moved, tested}
 use Rattle.js_frames.specs.declared.frames.Frame.{Frame}
 use Rattle.js_frames.specs.declared.frames.Here.{Here}
 use Rattle.js_locals.specs.declared.locals.Local.{Local}
@@ -43,8 +43,9 @@ use Rattle.js_frames.specs.declared.frames.Gives.{Gives}
 use Rattle.js_frames.specs.declared.frames.Gives.TheVariants as gives
 use Rattle.js_frames.specs.declared.frames.Purpose.{Purpose}
 use Rattle.js_frames.specs.declared.frames.Purpose.TheVariants as purpose
-use Rattle.js_locals.specs.Laid.{Laid, assignment_in, name_of, links_in, choices_in, last_in, steps_in, exprs_in, stmts_in, test_in, update_in, for_body_in}
+use Rattle.js_locals.specs.Laid.{Laid, assignment_in, name_of, links_in, choices_in, last_in, steps_in, exprs_in, fields_in, stmts_in, test_in, update_in, for_body_in}
 use Rattle.js_locals.specs.Scopes.{scopes_of}
+use Rattle.js_fields.specs.Entries.{fields_from}
 use Rattle.js_frames.specs.Awaiting.{awaits_spot}
 use Rattle.js_frames.specs.Standing.{Standing, state_of}
 
@@ -208,6 +209,8 @@ abbrev mutual
   then_of c x (frame.First p ∷ fs) v s = steps_then c (around_at x) (a_value v) p s (record { to_spot = awaits_spot fs; value = then_of c x fs; spot = spot_in c x fs })
   then_of c x (frame.Index w p ∷ fs) v s = element_of w v s (λ r t. steps_then c (around_at x) (a_value r) p t (record { to_spot = awaits_spot fs; value = then_of c x fs; spot = spot_in c x fs }))
   then_of c x (frame.All what vs p ∷ fs) v s = eval_all (around_at x) (exprs_in (c.rest p)) (vs ++ v ∷ []) s (λ ws t. all_then c (around_at x) what ws t (record { to_spot = awaits_spot fs; value = then_of c x fs; spot = spot_in c x fs }))
+  then_of c x (frame.Field es q p ∷ fs) v s =
+      eval_fields (around_at x) (fields_in (c.rest p)) (put_field (name_of c q) v (fields_from c es)) s (λ ws t. given (weighed (fields_value ws)) t (then_of c x fs))
   then_of c x (frame.Dropped ∷ fs) v s = next_in c x fs s
   then_of c x (frame.When p ∷ fs) v s =
       if counts v then run (around_at x) (top_stmt (c.rest p)) s (record { next = next_in c x fs; give = give_in c x fs; stop = stop_in c x fs; again = again_in c x fs })

@@ -23,7 +23,7 @@ use Rattle.evaluation.specs.declared.came.Evaluated.TheVariants as answer
 use Rattle.evaluation.specs.Evaluating.{Seen, is, looped, past}
 use Rattle.js_meaning.specs.declared.rounding.Rounding.{Rounding}
 use Rattle.js_meaning.specs.Operate.{counts, bounded, weighed, operate_prefix, same_units, is_nothing}
-use Rattle.js_meaning.specs.Rows.{list_value, at_place}
+use Rattle.js_meaning.specs.Rows.{list_value, fields_value, at_place}
 use Rattle.js_meaning.specs.Methods.{method_of, math_method, text_from, part_of_cell}
 use Rattle.js_meaning.specs.Locals.{Held, dead, alive, local}
 use Rattle.js_meaning.specs.Looking.{added_by, added_by_prefix, decides, literal_value, plain_member, at_number}
@@ -45,8 +45,10 @@ use Rattle.js_frames.specs.declared.frames.Gives.TheVariants as gives
 use Rattle.qml_syntax.specs.declared.operators.Postfix.{Postfix}
 use Rattle.js_frames.specs.declared.frames.To.{To}
 use Rattle.js_frames.specs.declared.frames.To.TheVariants as to
-use Rattle.js_locals.specs.Laid.{IsOperand, Laid, is_chain, is_choice, is_name, is_bump, links_in, name_of}
+use Rattle.js_locals.specs.Laid.{IsOperand, Laid, is_chain, is_choice, is_key, is_name, is_bump, links_in, name_of}
 use Rattle.js_locals.specs.Scopes.{scopes_of}
+use Rattle.js_fields.specs.declared.entries.Entry.{Entry}
+use Rattle.js_fields.specs.Entries.{fields_from}
 use Rattle.js_frames.specs.Awaiting.{awaits_spot}
 use Rattle.js_frames.specs.Standing.{Standing, with_frame, with_read, without_node}
 use Rattle.js_frames.specs.Meant.{World, callee_of}
@@ -174,6 +176,16 @@ AllFrom w c what vs p old new y =
     ((c.rest p ≡ []) × Finishes w c what vs old new y)
     ⊎ ((q : ℕ) × (c.rest p ≡ c.item q ∷ c.rest q) × Pushes (frame.All what vs q) q old new y)
 
+-- the field whose key stands at a place, behind these
+abbrev pub FieldBegins : Laid → List Entry → ℕ → Standing → Standing → Next → Type 0
+FieldBegins c es k old new y = (q : ℕ) × (is_key (node_of (c.item k)) ≡ true) × (c.rest k ≡ c.item q ∷ c.rest q) × Pushes (frame.Field es k q) q old new y
+
+-- the fields behind a part, behind these
+abbrev pub FieldsFrom : Laid → List Entry → ℕ → Standing → Standing → Next → Type 0
+FieldsFrom c es p old new y =
+    ((c.rest p ≡ []) × Turns (next_of (weighed (fields_value (fields_from c es)))) old new y)
+    ⊎ ((k : ℕ) × (c.rest p ≡ c.item k ∷ c.rest k) × FieldBegins c es k old new y)
+
 -- ---- what is begun
 
 -- where a node's first part stands
@@ -213,6 +225,9 @@ BeginsAssign c at old new y = (q : ℕ) × FirstPart c at q × Turns (next.Targe
 abbrev pub BeginsList : World → Laid → ℕ → Standing → Standing → Next → Type 0
 BeginsList w c at old new y = (q : ℕ) × FirstPart c at q × AllFrom w c purpose.List [] q old new y
 
+abbrev pub BeginsFields : Laid → ℕ → Standing → Standing → Next → Type 0
+BeginsFields c at old new y = (q : ℕ) × FirstPart c at q × FieldsFrom c [] q old new y
+
 abbrev pub Begins : World → Laid → Home → Node → ℕ → Standing → Standing → Next → Type 0
 Begins w c x (node.Name n p) at old new y = NameGives w c x to.Back n old new y
 Begins w c x (node.Number n p) at old new y = Turns (next_of (bounded (pos n))) old new y
@@ -220,6 +235,7 @@ Begins w c x (node.Text us p) at old new y = Turns (next_of (weighed (Text us)))
 Begins w c x (node.Literal l p) at old new y = Turns (next.Back (literal_value l)) old new y
 Begins w c x (node.Paren p) at old new y = (q : ℕ) × FirstPart c at q × Turns (next.Begin q) old new y
 Begins w c x (node.List p b) at old new y = BeginsList w c at old new y
+Begins w c x (node.Fields p b) at old new y = BeginsFields c at old new y
 Begins w c x (node.Chain f o p) at old new y = BeginsChain c None at old new y
 Begins w c x node.Choose at old new y = BeginsChoice c at old new y
 Begins w c x (node.Signed f g p) at old new y = BeginsSigned c g at old new y
@@ -436,4 +452,5 @@ Resumes w c (frame.Sign g) v old new y = Turns (next_of (operate_prefix g v)) ol
 Resumes w c (frame.First p) v old new y = Turns (next.Step (stands.Value v) p) old new y
 Resumes w c (frame.Index l p) v old new y = ElementOf w (to.Step p) l v old new y
 Resumes w c (frame.All what vs p) v old new y = AllFrom w c what (vs ++ v ∷ []) p old new y
+Resumes w c (frame.Field es k p) v old new y = FieldsFrom c (es ++ record { name = k; value = v } ∷ []) p old new y
 Resumes w c f v old new y = ⊥

@@ -9,7 +9,7 @@ use Rattle.qml_syntax.specs.declared.node.Node.{Node}
 use Rattle.qml_syntax.specs.declared.node.Node.TheVariants as node
 use Rattle.qml_syntax.specs.Tree.{Whole}
 use Rattle.qml_syntax.specs.Nodes.{Table}
-use Rattle.qml_syntax.specs.Opened.{node_of, root_of}
+use Rattle.qml_syntax.specs.Opened.{node_of}
 use Rattle.qml_value.specs.declared.value.Value.{Value, Undefined}
 use Rattle.evaluation.specs.declared.came.Evaluated.{Evaluated}
 use Rattle.evaluation.specs.declared.came.Evaluated.TheVariants as answer
@@ -23,6 +23,7 @@ use Rattle.js_frames.specs.declared.frames.Before.TheVariants as stands
 use Rattle.js_frames.specs.declared.frames.Next.{Next}
 use Rattle.js_frames.specs.declared.frames.Next.TheVariants as next
 use Rattle.js_locals.specs.declared.locals.Local.{Local}
+use Rattle.js_locals.specs.Texts.{StandsAs}
 use Rattle.js_frames.specs.declared.kinds.Kind.{Kind}
 use Rattle.js_frames.specs.declared.kinds.Kind.TheVariants as kind
 use Rattle.js_locals.specs.Laid.{Laid, laid, stmts_in, is_expr_node}
@@ -105,6 +106,7 @@ IsOutcome x o = x ≡ next.Ended o
 abbrev pub other_kind : Node → Kind
 other_kind (node.Expression e) = kind.Statement
 other_kind node.Body = kind.Body
+other_kind (node.Binding p) = kind.Body
 other_kind node.Document = kind.File
 other_kind (node.Script b) = kind.File
 other_kind _ = kind.Other
@@ -114,7 +116,7 @@ kind_of n = if is_expr_node n then kind.Expression else other_kind n
 
 -- what is heard of a whole text is heard of what begins at a place
 pub record Starts (c : Laid) (at : ℕ) (ls : List Local) (y : Next) : Type 0 where
-  pub heard_as : (w : World) (rs : List CellNo) (x : Where) (t : Whole) → c.item at ≡ root_of t → x.calls ≡ 100 → x.author ≡ x.home.author
+  pub heard_as : (w : World) (rs : List CellNo) (x : Where) (t : Whole) → StandsAs t (c.item at) → x.calls ≡ 100 → x.author ≡ x.home.author
       → told w c x (record { frames = []; reads = rs; left = 100000; locals = ls }) y ≡ after rs (heard w.names w.view (asks_whole x.code x.home x.at t))
 
 -- so it is where the text is of this kind

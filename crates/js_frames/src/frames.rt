@@ -4,6 +4,7 @@ ghost use Rattle.std.specs.Prelude.{◌≡◌, [], ◌∷◌, reverse, OnOk, Mat
 ghost use Rattle.js_frames.specs.Awaiting.{awaits_spot};
 
 use evaluation::{Args, Evaluated};
+use js_fields::Entries;
 use js_locals::Locals;
 use js_meaning::Rounding;
 use qml_base::{CellNo, ExprNo, Found, Home, ObjNo, UnitNo};
@@ -108,6 +109,8 @@ pub enum Frame {
     Index(Value, usize),
     /// It is the value of the part at a place, behind these in their row.
     All(Purpose, Args, usize),
+    /// It is the value of the field whose key stands at the first place, of the expression at the second, behind these.
+    Field(Entries, usize, usize),
     /// It is the place of the element of this value that is assigned to.
     At(Value),
     /// It is what stands in this spot, before the target at a place is assigned to.

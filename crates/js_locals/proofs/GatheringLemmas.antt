@@ -10,11 +10,11 @@ use Rattle.qml_value.specs.declared.value.Value.{Undefined}
 use Rattle.js_meaning.specs.Locals.{Scope, alive, dead, is_var, lets_in, lets_of, vars_of, vars_of_all, vars_of_first, slots_of, undefined_of}
 use Rattle.js_locals.specs.declared.gathering.Inner.{Inner}
 use Rattle.js_locals.specs.declared.gathering.Inner.TheVariants as inside
-use Rattle.js_locals.specs.Laid.{Laid, name_of, name_at, stmts_in, is_var_node, ForParts}
+use Rattle.js_locals.specs.Laid.{Laid, name_of, name_at, stmts_in, is_stmt_node, is_var_node, ForParts}
 use Rattle.js_locals.specs.Scopes.{fresh_slots}
 use Rattle.js_locals.specs.Gathering.{asks_for, names_of, names_of_all, names_in, row_from, names_left, size_of, size_of_all, size_left, inner_of, NameAdded, NamesAdded, Inside, HoldsRow, HoldsNames, is_var_first, FirstAdded, Walks, row_onto, count_from, Gathers, Adding}
 use Rattle.js_locals.proofs.RowLemmas.{first_is, rest_is, stmts_are, stmt_alone_is}
-use Rattle.js_locals.proofs.NodeLemmas.{made_of, is_stmt_node, stmt_item, var_item}
+use Rattle.js_locals.proofs.NodeLemmas.{made_of, stmt_item, var_item}
 
 pub row_is : (c : Laid) (m : ℕ) (p : Option ℕ) → MatchOption p (c.rest m ≡ []) (λ q. c.rest m ≡ c.item q ∷ c.rest q) → row_from c p ≡ c.rest m
 row_is c m None h = sym h

@@ -4,10 +4,10 @@ use Rattle.qml_syntax.specs.declared.node.Node.{Node}
 use Rattle.qml_syntax.specs.declared.node.Node.TheVariants as node
 use Rattle.qml_syntax.specs.Tree.{Expr, Step, Stmt, just}
 use Rattle.qml_syntax.proofs.GatherLemmas.{level_is_made}
-use Rattle.qml_syntax.specs.Nodes.{apply, Item, Parts, of_expr, of_step, of_stmt, of_var, of_maybe, of_target}
+use Rattle.qml_syntax.specs.Nodes.{apply, Item, Parts, of_expr, of_key, of_step, of_stmt, of_var, of_maybe, of_target}
 use Rattle.qml_syntax.specs.Opened.{node_of, parts_of}
 use Rattle.qml_syntax.specs.declared.operators.Assignment.{Assignment}
-use Rattle.js_locals.specs.Laid.{is_step_node, is_target, is_expr_node, is_var_node, is_present}
+use Rattle.js_locals.specs.Laid.{is_step_node, is_target, is_expr_node, is_stmt_node, is_key, is_var_node, is_present}
 
 pub made_of : (n : Node) (i : Item) → n ≡ node_of i → apply n (reverse (parts_of i) ++ []) ≡ i ∷ []
 made_of n i h = ap (λ z. apply z (reverse (parts_of i) ++ [])) h ∙ level_is_made i []
@@ -62,21 +62,6 @@ pub step_item : (n : Node) (i : Item) → n ≡ node_of i → is_step_node n ≡
 step_item n i h b = step_alone i (ap (λ z. starts_step z) (sym (made_of n i h)) ∙ step_heads n (reverse (parts_of i) ++ []) b)
 
 -- ---- statements
-
-abbrev pub is_stmt_node : Node → 𝔹
-is_stmt_node (node.Empty p) = true
-is_stmt_node (node.Expression c) = true
-is_stmt_node (node.Block p) = true
-is_stmt_node (node.Declare p k c) = true
-is_stmt_node (node.When p) = true
-is_stmt_node (node.Either p) = true
-is_stmt_node (node.While p) = true
-is_stmt_node (node.For p) = true
-is_stmt_node (node.Give p c) = true
-is_stmt_node (node.GiveValue p c) = true
-is_stmt_node (node.Stop p c) = true
-is_stmt_node (node.Again p c) = true
-is_stmt_node _ = false
 
 abbrev starts_stmt : Parts → 𝔹
 starts_stmt (of_stmt e ∷ s) = true
@@ -152,3 +137,20 @@ target_alone _ h = absurd (cc)
 
 pub target_item : (n : Node) (i : Item) → n ≡ node_of i → is_target n ≡ true → (f : 𝔹) × (t : Expr) × (g : Assignment) × (p : _) × (i ≡ of_target f t g p)
 target_item n i h b = target_alone i (ap (λ z. starts_target z) (sym (made_of n i h)) ∙ target_heads n (reverse (parts_of i) ++ []) b)
+
+-- ---- keys of fields
+
+abbrev starts_key : Parts → 𝔹
+starts_key (of_key q n p ∷ s) = true
+starts_key _ = false
+
+key_heads : (n : Node) (s : Parts) → is_key n ≡ true → starts_key (apply n s) ≡ true
+key_heads (node.Key q m p) s h = refl
+key_heads _ s h = absurd (cc)
+
+key_alone : (i : Item) → starts_key (i ∷ []) ≡ true → (q : 𝔹) × (m : List ℕ) × (p : _) × (i ≡ of_key q m p)
+key_alone (of_key q m p) h = (q, m, p, refl)
+key_alone _ h = absurd (cc)
+
+pub key_item : (n : Node) (i : Item) → n ≡ node_of i → is_key n ≡ true → (q : 𝔹) × (m : List ℕ) × (p : _) × (i ≡ of_key q m p)
+key_item n i h b = key_alone i (ap (λ z. starts_key z) (sym (made_of n i h)) ∙ key_heads n (reverse (parts_of i) ++ []) b)

@@ -10,8 +10,8 @@ use Rattle.qml_syntax.specs.declared.operators.Assignment.TheVariants as update
 use Rattle.qml_syntax.specs.declared.node.Node.{Node}
 use Rattle.qml_syntax.specs.declared.node.Node.TheVariants as node
 use Rattle.qml_syntax.specs.declared.literal.Declaration.{Declaration}
-use Rattle.qml_syntax.specs.Tree.{Expr, Exprs, no_exprs, an_expr, Steps, no_steps, a_step, Links, no_links, a_link, Choices, no_choices, a_choice, Stmt, Stmts, no_stmts, a_stmt, Maybe, nothing}
-use Rattle.qml_syntax.specs.Nodes.{Item, of_step, of_link, of_choice, Table, top_expr, top_stmt, top_maybe, no_stmt}
+use Rattle.qml_syntax.specs.Tree.{Expr, Exprs, no_exprs, an_expr, Fields, no_fields, a_field, Steps, no_steps, a_step, Links, no_links, a_link, Choices, no_choices, a_choice, Stmt, Stmts, no_stmts, a_stmt, Maybe, nothing}
+use Rattle.qml_syntax.specs.Nodes.{Item, of_key, of_step, of_link, of_choice, Table, top_expr, top_stmt, top_maybe, no_stmt}
 use Rattle.qml_syntax.specs.Opened.{node_of}
 use Rattle.qml_syntax.specs.Places.{part_at, behind}
 
@@ -43,6 +43,7 @@ name_at (node.Name n p) = n
 name_at (node.Member n p) = n
 name_at (node.Var n p) = n
 name_at (node.ParameterName n) = n
+name_at (node.Key q n p) = n
 name_at _ = []
 
 -- the name that stands at a place
@@ -77,6 +78,10 @@ abbrev pub is_name : Node → 𝔹
 is_name (node.Name n p) = true
 is_name _ = false
 
+abbrev pub is_key : Node → 𝔹
+is_key (node.Key q n p) = true
+is_key _ = false
+
 abbrev pub is_bump : Prefix → 𝔹
 is_bump prefix.Increment = true
 is_bump prefix.Decrement = true
@@ -97,6 +102,21 @@ is_expr_node (node.Chain f o p) = true
 is_expr_node node.Choose = true
 is_expr_node node.Assign = true
 is_expr_node _ = false
+
+abbrev pub is_stmt_node : Node → 𝔹
+is_stmt_node (node.Empty p) = true
+is_stmt_node (node.Expression c) = true
+is_stmt_node (node.Block p) = true
+is_stmt_node (node.Declare p k c) = true
+is_stmt_node (node.When p) = true
+is_stmt_node (node.Either p) = true
+is_stmt_node (node.While p) = true
+is_stmt_node (node.For p) = true
+is_stmt_node (node.Give p c) = true
+is_stmt_node (node.GiveValue p c) = true
+is_stmt_node (node.Stop p c) = true
+is_stmt_node (node.Again p c) = true
+is_stmt_node _ = false
 
 -- ---- parts in a row
 
@@ -121,6 +141,11 @@ steps_in _ = no_steps
 abbrev pub exprs_in : List Item → Exprs
 exprs_in [] = no_exprs
 exprs_in (i ∷ is) = an_expr (top_expr (i ∷ [])) (exprs_in is)
+
+-- keys, each with its value behind it
+abbrev pub fields_in : List Item → Fields
+fields_in (of_key q n p ∷ i ∷ is) = a_field q n p (top_expr (i ∷ [])) (fields_in is)
+fields_in _ = no_fields
 
 abbrev pub stmts_in : List Item → Stmts
 stmts_in [] = no_stmts

@@ -1,3 +1,4 @@
 pub mod Laid
 pub mod Scopes
 pub mod Gathering
+pub mod Texts

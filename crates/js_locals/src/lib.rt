@@ -12,4 +12,6 @@ mod parts;
 pub use gathering::{Inner, first_names, let_names, row_behind, var_names};
 pub use locals::{Local, Locals, Writable, bind, declare, find, leave, put, writable_in};
 pub use names::{copied, name_of};
-pub use parts::{first_part, for_parts, is_expression, is_var, is_var_node, next_part, node_at};
+pub use parts::{
+    first_part, for_parts, is_expression, is_key, is_var, is_var_node, next_part, node_at,
+};

@@ -28,6 +28,7 @@ fn name_in(node: &Node) -> Option<&Text>
         Node::Member(name, _) => Some(name),
         Node::Var(name, _) => Some(name),
         Node::ParameterName(name) => Some(name),
+        Node::Key(_, name, _) => Some(name),
         _ => None,
     }
 }

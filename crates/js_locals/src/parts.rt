@@ -3,7 +3,7 @@
 ghost use Rattle.std.specs.Prelude.{IfOk, ◌≡◌, [], ◌∷◌, IfSome, MatchOption};
 ghost use Rattle.qml_syntax.specs.Opened.{node_of, parts_of, IsListing};
 ghost use Rattle.js_meaning.specs.Locals.{is_var};
-ghost use Rattle.js_locals.specs.Laid.{is_var_node, ForParts, laid, is_expr_node};
+ghost use Rattle.js_locals.specs.Laid.{is_key, is_var_node, ForParts, laid, is_expr_node};
 
 use qml_syntax::{Declaration, Node, Tree};
 use qml_text::NoMemory;
@@ -42,6 +42,16 @@ pub fn is_expression(node: &Node) -> bool
         Node::Paren(_) | Node::List(_, _) | Node::Fields(_, _) | Node::Steps => true,
         Node::Postfix(_, _) | Node::Signed(_, _, _) | Node::Chain(_, _, _) => true,
         Node::Choose | Node::Assign => true,
+        _ => false,
+    }
+}
+
+/// Whether it is the node of the key of a field.
+pub fn is_key(node: &Node) -> bool
+    ensures { result ≡ is_key node.now }
+{
+    match node {
+        Node::Key(_, _, _) => true,
         _ => false,
     }
 }

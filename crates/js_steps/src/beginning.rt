@@ -8,6 +8,7 @@ ghost use Rattle.js_locals.specs.Laid.{laid, is_name};
 ghost use Rattle.js_frames.specs.Standing.{standing};
 ghost use Rattle.js_frames.specs.Moves.{Turns, next_of, typed_found, BeginsChain, BeginsSigned, BeginsSteps, BeginsChoice, BeginsMembers, BeginsList, Begins, BeginsCounted, NameTyped, TypedName, Bumps, BeginsPostfix, BeginsAssign, OperandSigned, OperandBegins, Signs};
 
+use crate::fields::fields_begun;
 use crate::finishing::all_from;
 use crate::looking::{arrive, found_value, local_value, name_value, next_of, threw};
 use crate::resuming::pushed;
@@ -213,6 +214,7 @@ pub fn entered<V: View>(
             None => Err(NoMemory),
         },
         Node::List(_, _) => list_begun(machine, alloc, tree, view, at),
+        Node::Fields(_, _) => fields_begun(machine, alloc, tree, at),
         Node::Chain(_, _, _) => chain(machine, tree, at),
         Node::Choose => choice(machine, tree, at),
         Node::Signed(_, op, _) => signed(machine, tree, *op, at),

@@ -3,6 +3,7 @@
 #![tactic(auto)]
 
 mod beginning;
+mod fields;
 mod finishing;
 mod looking;
 mod resuming;

@@ -9,6 +9,7 @@ ghost use Rattle.js_locals.specs.Laid.{laid, op_of, is_choice, links_in, link_op
 ghost use Rattle.js_frames.specs.Standing.{standing};
 ghost use Rattle.js_frames.specs.Moves.{Pushes, LinkOn, ChainOn, OtherChoice, ChooseOn, AllFrom, RightOn, Resumes};
 
+use crate::fields::field_on;
 use crate::finishing::all_from;
 use crate::looking::{element, next_of};
 use evaluation::{Args, Ended, View};
@@ -270,6 +271,9 @@ pub fn resumed<V: View>(
         Frame::Index(held, part) => { element(machine, alloc, view, To::Step(part), &held, &value) }
         Frame::All(purpose, values, part) => {
             row_on(machine, alloc, tree, view, purpose, values, part, value)
+        }
+        Frame::Field(entries, key, part) => {
+            field_on(machine, alloc, tree, entries, key, part, value)
         }
         _ => Err(NoMemory),
     }

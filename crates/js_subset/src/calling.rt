@@ -101,7 +101,9 @@ pub(crate) fn entered<C: Code>(
     let Some(tree) = code.tree(body) else {
         return Err(NoMemory);
     };
-    let mark = code.statements(body);
+    let Some(mark) = code.statements(body) else {
+        return Err(NoMemory);
+    };
     let first = row_behind(tree, mark);
     let locals = body_locals(alloc, tree, code.parameters(body), values.values(), first)?;
     begin_body(machine, here, calls, locals, body, object, at)?;

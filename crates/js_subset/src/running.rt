@@ -4,7 +4,8 @@ ghost use Rattle.std.specs.Prelude.{◌≡◌, ◌∷◌, [], IfOk};
 ghost use Rattle.js_locals.specs.Laid.{laid};
 ghost use Rattle.js_frames.specs.Standing.{standing, with_frame};
 ghost use Rattle.js_frames.specs.Statements.{GoesOn, Gives, Stops, GoesAgain};
-ghost use Rattle.js_frames.specs.Stepping.{GoesAt, Goes, Unwinds, has_ended_of};
+ghost use Rattle.js_frames.specs.Stepping.{Goes, Unwinds, has_ended_of};
+ghost use Rattle.js_progress.specs.Moving.{MovesAt, Moves, Nears};
 
 use crate::assigning::{assigned, found_for, is_of_assignment, spot, targets};
 use crate::calling::{entered, returned};
@@ -30,7 +31,7 @@ fn is_of_statement(frame: &Frame) -> bool {
 }
 
 /// Goes on with a value that a frame awaits.
-#[tactic(auto, using(js_frames::proofs::EndLemmas::resumes_at, js_frames::proofs::EndLemmas::takes_at))]
+#[tactic(auto, using(js_progress::proofs::MovingLemmas::resumes_at, js_progress::proofs::MovingLemmas::takes_at))]
 fn back_to<V: View>(
     machine: &mut Machine,
     alloc: Global,
@@ -40,7 +41,7 @@ fn back_to<V: View>(
     frame: Frame,
     value: Value,
 ) -> Result<Next, NoMemory>
-    ensures { IfOk result (λ y. GoesAt (record { names = V.names view.now; view = V.seen view.now }) (laid tree.now) home (with_frame frame (standing machine.old)) (Next.Back value) (standing machine.new) y) }
+    ensures { IfOk result (λ y. MovesAt (record { names = V.names view.now; view = V.seen view.now }) (laid tree.now) home (with_frame frame (standing machine.old)) (Next.Back value) (standing machine.new) y) }
 {
     if is_of_assignment(&frame) {
         let next = assigned(machine, alloc, tree, frame, value)?;
@@ -55,7 +56,7 @@ fn back_to<V: View>(
 }
 
 /// Gives a value back to what awaits it.
-#[tactic(auto, using(js_frames::proofs::EndLemmas::ends_here))]
+#[tactic(auto, using(js_progress::proofs::MovingLemmas::ends_here))]
 fn back<V: View>(
     machine: &mut Machine,
     alloc: Global,
@@ -64,7 +65,7 @@ fn back<V: View>(
     home: Home,
     value: Value,
 ) -> Result<Next, NoMemory>
-    ensures { IfOk result (λ y. GoesAt (record { names = V.names view.now; view = V.seen view.now }) (laid tree.now) home (standing machine.old) (Next.Back value) (standing machine.new) y) }
+    ensures { IfOk result (λ y. MovesAt (record { names = V.names view.now; view = V.seen view.now }) (laid tree.now) home (standing machine.old) (Next.Back value) (standing machine.new) y) }
 {
     match machine.frames.pop() {
         None => Ok(Next::Ended(Evaluated::Value(value))),
@@ -85,7 +86,7 @@ fn found_behind<V: View>(
     frame: Frame,
     spot: Spot,
 ) -> Result<Next, NoMemory>
-    ensures { IfOk result (λ y. GoesAt (record { names = V.names view.now; view = V.seen view.now }) (laid tree.now) home (with_frame frame (standing machine.old)) (Next.Found spot) (standing machine.new) y) }
+    ensures { IfOk result (λ y. MovesAt (record { names = V.names view.now; view = V.seen view.now }) (laid tree.now) home (with_frame frame (standing machine.old)) (Next.Found spot) (standing machine.new) y) }
 {
     let next = found_for(machine, alloc, tree, view, home, &frame, spot)?;
     Ok(next)
@@ -100,7 +101,7 @@ fn found<V: View>(
     home: Home,
     spot: Spot,
 ) -> Result<Next, NoMemory>
-    ensures { IfOk result (λ y. GoesAt (record { names = V.names view.now; view = V.seen view.now }) (laid tree.now) home (standing machine.old) (Next.Found spot) (standing machine.new) y) }
+    ensures { IfOk result (λ y. MovesAt (record { names = V.names view.now; view = V.seen view.now }) (laid tree.now) home (standing machine.old) (Next.Found spot) (standing machine.new) y) }
 {
     match machine.frames.pop() {
         None => Err(NoMemory),
@@ -112,7 +113,7 @@ fn found<V: View>(
 }
 
 /// One move within the code that is under way.
-#[tactic(auto, using(js_frames::proofs::EndLemmas::begun_at, js_frames::proofs::EndLemmas::steps_at, js_frames::proofs::EndLemmas::signs_at, js_frames::proofs::EndLemmas::args_at, js_frames::proofs::EndLemmas::runs_at, js_frames::proofs::EndLemmas::rests_at, js_frames::proofs::EndLemmas::vars_at, js_frames::proofs::EndLemmas::stays_at))]
+#[tactic(auto, using(js_progress::proofs::MovingLemmas::begun_at, js_progress::proofs::MovingLemmas::steps_at, js_progress::proofs::MovingLemmas::signs_at, js_progress::proofs::MovingLemmas::args_at, js_progress::proofs::MovingLemmas::runs_at, js_progress::proofs::MovingLemmas::rests_at, js_progress::proofs::MovingLemmas::vars_at))]
 fn moved_within<V: View>(
     machine: &mut Machine,
     alloc: Global,
@@ -121,7 +122,7 @@ fn moved_within<V: View>(
     home: Home,
     next: Next,
 ) -> Result<Next, NoMemory>
-    ensures { IfOk result (λ y. GoesAt (record { names = V.names view.now; view = V.seen view.now }) (laid tree.now) home (standing machine.old) next (standing machine.new) y) }
+    ensures { IfOk result (λ y. MovesAt (record { names = V.names view.now; view = V.seen view.now }) (laid tree.now) home (standing machine.old) next (standing machine.new) y) }
 {
     match next {
         Next::Begin(at) => {
@@ -162,10 +163,8 @@ fn moved_within<V: View>(
             let next = declared(machine, alloc, tree, kind, part)?;
             Ok(next)
         }
-        Next::Enter(_, _, _, _) | Next::Done | Next::Give(_) | Next::Stop | Next::Again => Err(
-            NoMemory,
-        ),
-        Next::Ended(outcome) => Ok(Next::Ended(outcome)),
+        Next::Enter(_, _, _, _) | Next::Done | Next::Give(_) => Err(NoMemory),
+        Next::Stop | Next::Again | Next::Ended(_) => Err(NoMemory),
     }
 }
 
@@ -239,7 +238,7 @@ fn repeated(machine: &mut Machine, here: &mut Here, tree: &Tree) -> Result<Next,
 }
 
 /// One move.
-#[tactic(auto, using(js_frames::proofs::CallLemmas::enters_when, js_frames::proofs::CallLemmas::done_when, js_frames::proofs::CallLemmas::given_when, js_frames::proofs::CallLemmas::stopped_when, js_frames::proofs::CallLemmas::repeated_when, js_frames::proofs::CallLemmas::within_at))]
+#[tactic(auto, using(js_progress::proofs::MovingLemmas::enters_when, js_progress::proofs::MovingLemmas::done_when, js_progress::proofs::MovingLemmas::given_when, js_progress::proofs::MovingLemmas::stopped_when, js_progress::proofs::MovingLemmas::repeated_when, js_progress::proofs::MovingLemmas::within_at))]
 fn moved<V: View, C: Code>(
     machine: &mut Machine,
     alloc: Global,
@@ -248,7 +247,7 @@ fn moved<V: View, C: Code>(
     here: &mut Here,
     next: Next,
 ) -> Result<Next, NoMemory>
-    ensures { IfOk result (λ y. Goes (record { names = V.names view.now; view = V.seen view.now }) (C.meaning code.now) (C.tables code.now) here.old here.new (standing machine.old) next (standing machine.new) y) }
+    ensures { IfOk result (λ y. Moves (record { names = V.names view.now; view = V.seen view.now }) (C.meaning code.now) (C.tables code.now) here.old here.new (standing machine.old) next (standing machine.new) y) }
 {
     let Some(tree) = code.tree(here.text) else {
         return Err(NoMemory);
@@ -291,8 +290,33 @@ fn has_ended(next: &Next) -> bool
     }
 }
 
+/// Goes on until the next node is begun, or to the end.
+#[tactic(auto, using(js_frames::proofs::EndLemmas::goes_nowhere, js_progress::proofs::MovingLemmas::falls_on))]
+fn run_to_node<V: View, C: Code>(
+    machine: &mut Machine,
+    alloc: Global,
+    view: &V,
+    code: &C,
+    here: &mut Here,
+    first: Next,
+) -> Result<Next, NoMemory>
+    ensures { IfOk result (λ y. Nears (record { names = V.names view.now; view = V.seen view.now }) (C.meaning code.now) (C.tables code.now) here.old here.new (standing machine.old) first (standing machine.new) y) }
+{
+    let left = machine.left;
+    let mut next = first;
+    'moves: loop {
+        next = moved(machine, alloc, view, code, here, next)?;
+        if has_ended(&next) {
+            return Ok(next);
+        }
+        if machine.left < left {
+            return Ok(next);
+        }
+    }
+}
+
 /// Goes on to the end.
-#[tactic(auto, using(js_frames::proofs::EndLemmas::goes_on, js_frames::proofs::EndLemmas::goes_nowhere))]
+#[tactic(auto, using(js_frames::proofs::EndLemmas::goes_nowhere, js_progress::proofs::MovingLemmas::nearer_by))]
 pub(crate) fn run<V: View, C: Code>(
     machine: &mut Machine,
     alloc: Global,
@@ -304,11 +328,11 @@ pub(crate) fn run<V: View, C: Code>(
     ensures { IfOk result (λ y. Goes (record { names = V.names view.now; view = V.seen view.now }) (C.meaning code.now) (C.tables code.now) here.old here.new (standing machine.old) first (standing machine.new) y) }
 {
     let mut next = first;
-    'moves: for _ in 0..u64::MAX {
+    'nodes: while !has_ended(&next) {
+        next = run_to_node(machine, alloc, view, code, here, next)?;
         if has_ended(&next) {
             break;
         }
-        next = moved(machine, alloc, view, code, here, next)?;
     }
     Ok(next)
 }

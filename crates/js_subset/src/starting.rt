@@ -26,7 +26,7 @@ fn kind_of(node: &Node) -> Kind
     }
     match node {
         Node::Expression(_) => Kind::Statement,
-        Node::Body => Kind::Body,
+        Node::Body | Node::Binding(_) => Kind::Body,
         Node::Document | Node::Script(_) => Kind::File,
         _ => Kind::Other,
     }

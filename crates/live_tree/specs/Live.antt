@@ -1,5 +1,5 @@
 -- What contracts see of a live tree, and what its calls answer.
-use Rattle.std.specs.Prelude.{◌≡◌, ◌≢◌, ℕ, ◌+◌, ◌<◌, ◌++◌, List, [], ◌∷◌, length, Some, Option, Result, Ok, Err, false, slice_get, slice_set}
+use Rattle.std.specs.Prelude.{◌≡◌, ◌≢◌, ℕ, ◌+◌, ◌<◌, ◌++◌, List, [], ◌∷◌, length, map, Some, Option, Result, Ok, Err, Bool, false, if◌then◌else◌, slice_get, slice_set}
 use Rattle.qml_base.specs.declared.numbers.ObjNo.{ObjNo}
 use Rattle.qml_base.specs.declared.numbers.CellNo.{CellNo}
 use Rattle.qml_value.specs.declared.value.Value.{Value}
@@ -12,11 +12,13 @@ use Rattle.evaluation.specs.declared.came.Came.TheVariants as came
 use Rattle.qml_scope.specs.Shapes.{Known, TellsOf, names_of, types_among}
 use Rattle.tree_model.specs.declared.cells.Cell.{Cell}
 use Rattle.tree_model.specs.declared.cells.NewCell.{NewCell}
+use Rattle.tree_model.specs.declared.cells.Object.{Object}
 use Rattle.tree_model.specs.declared.cells.Content.{Content}
 use Rattle.tree_model.specs.declared.cells.Content.TheVariants.{Plain}
 use Rattle.tree_model.specs.Converting.{convert_of}
 use Rattle.tree_model.specs.Rules.{World}
 use Rattle.tree_model.specs.Settling.{Tree, place_of}
+use Rattle.tree_model.specs.Removing.{quiet}
 use Rattle.object_tree.specs.Trees.{IsFull}
 use Rattle.object_tree.specs.declared.tree.AddFault.{AddFault}
 use Rattle.object_tree.specs.declared.tree.AddFault.TheVariants as fault
@@ -29,6 +31,10 @@ pub record Live : Type 0 where
   pub tree : Tree
   pub given : ℕ
   pub known : Known
+
+-- the cells, where those of bindings that aren't active any more may still have the outcomes that they had
+abbrev pub shown : Bool → List Object → List Cell → List Cell
+shown stale objects cells = if stale then map (quiet objects) cells else cells
 
 -- what texts ask for stands in the world of the tree's own names and types
 abbrev pub world_around : Live → (ExprNo → Home → Ask) → World

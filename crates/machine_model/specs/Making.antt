@@ -4,26 +4,21 @@ use Rattle.std.specs.Option.{option_map}
 use Rattle.std.specs.List.{filter}
 use Rattle.qml_base.specs.declared.numbers.ObjNo.{ObjNo}
 use Rattle.qml_base.specs.declared.numbers.CellNo.{CellNo}
-use Rattle.qml_value.specs.declared.value.Value.{Value, Undefined}
+use Rattle.qml_value.specs.declared.value.Value.{Value}
 use Rattle.qml_types.specs.declared.kind.TypeRef.{TypeRef}
-use Rattle.js_meaning.specs.Rows.{list_value}
 use Rattle.trace_print.specs.declared.entry.Entry.{Entry as TraceEntry}
 use Rattle.trace_print.specs.declared.entry.Entry.TheVariants as entry
 use Rattle.tree_model.specs.declared.cells.Object.{Object}
 use Rattle.tree_model.specs.declared.cells.Cell.{Cell}
 use Rattle.tree_model.specs.declared.cells.NewCell.{NewCell}
-use Rattle.tree_model.specs.declared.cells.Content.{Content as TreeContent}
-use Rattle.tree_model.specs.declared.cells.Content.TheVariants.{Plain, Bound}
-use Rattle.tree_model.specs.declared.cells.Rule.{Rule as TreeRule}
-use Rattle.tree_model.specs.declared.cells.Rule.TheVariants as rule
 use Rattle.property_store.specs.Stores.{new_cells}
 use Rattle.qml_scope.specs.declared.shape.Shape.{Shape}
 use Rattle.qml_scope.specs.declared.shape.Entry.{Entry}
 use Rattle.instance_plans.specs.Numbers.{planned_from, object_no}
 use Rattle.instance_plans.specs.declared.planned.Planned.{Planned}
-use Rattle.instance_plans.specs.Contents.{Rule, by_text, by_visible, by_enabled, by_count, Content, plain, list_of, bound}
 use Rattle.instance_plans.specs.NamesMade.{ObjectNames, InstanceNames}
-use Rattle.instance_plans.specs.Cells.{MadeCell, MadeObject}
+use Rattle.instance_plans.specs.Cells.{MadeObject}
+use Rattle.instance_plans.specs.Treed.{cell_made}
 use Rattle.instance_plans.specs.Plans.{Instance, PlanFault, by_field, full, plan_instance}
 use Rattle.machine_model.specs.State.{Machine, objects, Delivery, starts, completed}
 use Rattle.machine_model.specs.Acts.{Done, ◌>>=◌, ◌>>◌, nothing, look, turn_into, stop_with, each, by_test, tell}
@@ -32,26 +27,6 @@ use Rattle.machine_model.specs.Showing.{tell_settled}
 use Rattle.machine_model.specs.Emission.{Below, settle, deliver_unless, emit, emit_change}
 
 -- ---- from a plan to the tree
-
-abbrev pub rule_made : Rule → TreeRule
-rule_made (by_text text home) = rule.Text text home
-rule_made by_visible = rule.Visible
-rule_made by_enabled = rule.Enabled
-rule_made by_count = rule.Count
-
-abbrev pub content_made : Content → TreeContent
-content_made (plain v) = Plain v
-content_made (list_of vs) = Plain (list_value vs)
-content_made (bound r author) = Bound (record { rule = rule_made r; author = author })
-
--- what a cell holds at first is never bound
-abbrev pub value_made : Content → Value
-value_made (plain v) = v
-value_made (list_of vs) = list_value vs
-value_made (bound r author) = Undefined
-
-abbrev pub cell_made : MadeCell → NewCell
-cell_made c = record { kind = c.kind; content = content_made c.content; held = value_made c.first }
 
 abbrev pub object_made : Option ObjNo → ℕ → MadeObject → Object
 object_made origin n x = record { number = object_no n; owner = option_map object_no x.owner; origin = origin; condemned = false }

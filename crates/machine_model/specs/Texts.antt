@@ -1,37 +1,22 @@
 -- What the texts of loaded documents, of scripts and of lines ask, and what is around a tree: names, types and texts.
-use Rattle.std.specs.Prelude.{ℕ, ◌&&◌, nat_eq, Bool, List, [], ◌∷◌, slice_get}
+use Rattle.std.specs.Prelude.{ℕ, ◌&&◌, nat_eq, Bool, List, [], ◌∷◌, ◌++◌, slice_get}
 use Rattle.std.specs.Option.{option_map, unwrap_or}
 use Rattle.std.specs.List.{find}
 use Rattle.qml_base.specs.declared.numbers.ExprNo.{ExprNo}
 use Rattle.qml_base.specs.declared.numbers.Place.{Place}
 use Rattle.qml_base.specs.declared.names.Home.{Home}
-use Rattle.qml_syntax.specs.Tree.{Units, no_stmts, a_stmt, Pars, no_pars, a_par, function, Whole, whole_stmt, whole_body}
+use Rattle.qml_syntax.specs.Tree.{Units, no_stmts}
 use Rattle.qml_value.specs.declared.value.Value.{Value}
 use Rattle.evaluation.specs.Ask.{Ask}
-use Rattle.js_meaning.specs.Eval.{Function, Code, asks_whole, begun_body}
+use Rattle.js_meaning.specs.Eval.{Code, asks_whole, begun_body}
 use Rattle.qml_scope.specs.Shapes.{Known, names_of, types_among}
 use Rattle.tree_model.specs.Rules.{World}
 use Rattle.unit_rows.specs.Rows.{Body, of_statement, of_function, of_statements}
+use Rattle.unit_rows.specs.Texts.{function_of, text_of}
 use Rattle.instance_plans.specs.Numbers.{AllRows, rows_at}
 
 abbrev pub body_at : AllRows → ExprNo → Body
 body_at units e = unwrap_or (slice_get (rows_at units e.unit.0).bodies e.at) (of_statements no_stmts)
-
-abbrev parameters_of : Pars → List Units
-parameters_of no_pars = []
-parameters_of (a_par n k rest) = n ∷ parameters_of rest
-
--- a body as a function
-abbrev function_of : Body → Function
-function_of (of_statement s names) = record { parameters = names; statements = a_stmt s no_stmts }
-function_of (of_function (function p n q ps k ss)) = record { parameters = parameters_of ps; statements = ss }
-function_of (of_statements ss) = record { parameters = []; statements = ss }
-
--- a body as the text of a binding
-abbrev text_of : Body → Whole
-text_of (of_statement s names) = whole_stmt s
-text_of (of_function (function p n q ps k ss)) = whole_body ss
-text_of (of_statements ss) = whole_body ss
 
 abbrev same_place : Place → Place → Bool
 same_place a b = nat_eq a.line b.line && nat_eq a.column b.column
@@ -49,9 +34,11 @@ code_of units = record { function = λ e. function_of (body_at units e); bound =
 abbrev pub binding_asks : AllRows → ExprNo → Home → Ask
 binding_asks units e home = asks_whole (code_of units) home e (text_of (body_at units e))
 
--- names of parameters are for statements: a function has its own
+-- names of parameters are for statements, those of the signal that one is written for or that it now runs for: a function has
+-- its own
 abbrev names_for : Body → List Units → List Units
 names_for (of_function f) names = []
+names_for (of_statement s own) names = own ++ names
 names_for b names = names
 
 -- what a body asks from its beginning; `names` are the parameters of the signal that it runs for

@@ -13,11 +13,10 @@ use Rattle.program_names.specs.Utf8.{utf8_of}
 use Rattle.program_names.specs.Types.{TypeUse, uses_type, misnames_type, type_uses, TypeFound, found_type, is_script_text, module_name}
 use Rattle.program_names.specs.Reading.{File, Sources, Source, is_document, fault, start_of_file, first_of, file_fault, mentions, ReadFile, refused_by, mentioning, read_by}
 use Rattle.document_imports.specs.Imports.{row_of, a_script, a_directory}
-use Rattle.type_search.specs.Search.{Exists}
+use Rattle.type_search.specs.Search.{Exists, is_file}
 use Rattle.type_search.proofs.SearchLemmas.{search_finds}
 use Rattle.name_reading.specs.NamesRead.{fault_of_source, fault_of_row, script_of_source, script_of_row, scripts_of, found_use, place_of_use, file_of, uses_read, names_by, names_read}
 use Rattle.document_counts.specs.Counts.{has_too_many}
-use Rattle.name_reading.specs.Whole.{is_file}
 
 -- ---- the definition, in parts
 

@@ -1,2 +1,1 @@
 pub mod NamesRead
-pub mod Whole

@@ -9,9 +9,9 @@ use Rattle.qml_types.specs.Table.{offers, is_offering}
 use Rattle.program_names.specs.declared.fault.Fault.{Fault}
 use Rattle.program_names.specs.Paths.{Path}
 use Rattle.program_names.specs.Types.{TypeUse, uses_type, misnames_type, TypeFound, built_in, in_file}
-use Rattle.program_names.specs.Reading.{File, fault, first_of, ReadFile, refused_by, mentioning}
+use Rattle.program_names.specs.Reading.{File, Sources, fault, first_of, ReadFile, refused_by, mentioning}
 use Rattle.document_imports.specs.Imports.{Row, Source, a_module, a_directory, a_script}
-use Rattle.type_search.specs.Search.{Exists, searched}
+use Rattle.type_search.specs.Search.{Exists, is_file, searched}
 use Rattle.read_order.specs.declared.file.FileRead.{FileRead}
 use Rattle.read_order.specs.Order.{read_of}
 
@@ -70,6 +70,6 @@ names_by None how = how
 abbrev pub names_read : Exists → Path → List Row → List TypeUse → ReadFile
 names_read exists here rows uses = names_by (module_fault rows) (uses_read exists here rows (scripts_of rows) uses)
 
--- reading has come to what this says for all files that what is known allows
-abbrev pub ReadsAs : (Exists → Type 0) → FileRead → (Exists → ReadFile) → Type 0
-ReadsAs allows how means = (exists : Exists) → allows exists → read_of how ≡ means exists
+-- reading has come to what this says for all sources that what is known allows
+abbrev pub ReadsAs : (Sources → Type 0) → FileRead → (Exists → ReadFile) → Type 0
+ReadsAs allows how means = (sources : Sources) → allows sources → read_of how ≡ means (is_file sources)

@@ -8,7 +8,7 @@ ghost use Rattle.program_names.specs.Reading.{File as AFile, Sources, is_documen
 ghost use Rattle.document_imports.specs.Imports.{row_of};
 ghost use Rattle.name_reading.specs.NamesRead.{names_read};
 ghost use Rattle.document_counts.specs.Counts.{has_too_many};
-ghost use Rattle.name_reading.specs.Whole.{is_file};
+ghost use Rattle.type_search.specs.Search.{is_file};
 
 /// A document that hasn't too many objects or bindings is read as its names are, by the files that the sources have.
 #[tactic(auto, using(crate::proofs::ReadLemmas::read_by_names))]

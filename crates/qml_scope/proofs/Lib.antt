@@ -1,3 +1,6 @@
 mod NameLemmas
 mod OutwardLemmas
 mod ShapeLemmas
+mod SeatLemmas
+mod FindingLemmas
+mod CellNameLemmas

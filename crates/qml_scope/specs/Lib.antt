@@ -1,2 +1,4 @@
 pub mod Names
 pub mod Shapes
+pub mod Seats
+pub mod CellNames

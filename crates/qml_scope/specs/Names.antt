@@ -21,3 +21,12 @@ named_by test (row ∷ rest) = if test row.1 then Some row.0 else named_by test 
 -- names as they lie in a map
 abbrev pub pair_of : {X : Type 0} → Vec ℕ Global × X → List ℕ × X
 pair_of entry = (entry.0.items, entry.1)
+
+-- the name of a row, and what stands under it
+abbrev pub row_name : {X : Type 0} → Option (List ℕ × X) → Option (List ℕ)
+row_name None = None
+row_name (Some row) = Some row.0
+
+abbrev pub row_found : {X : Type 0} → Option (List ℕ × X) → Option X
+row_found None = None
+row_found (Some row) = Some row.1

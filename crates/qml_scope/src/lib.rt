@@ -2,10 +2,13 @@
 //! of objects, `resolve` and `member` are the definitions of `specs/Shapes.antt` exactly.
 #![tactic(auto)]
 
+mod cell_names;
+mod finding;
 mod instances;
 mod looking;
 mod named;
 mod resolving;
+mod seats;
 mod shape;
 mod shapes;
 

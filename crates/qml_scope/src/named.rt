@@ -1,7 +1,7 @@
 //! Names, each with what stands under it, found by hashing.
 
-ghost use Rattle.std.specs.Prelude.{◌≡◌, [], OnOk, OnErr, map, option_copied};
-ghost use Rattle.qml_scope.specs.Names.{under, put, named_by, pair_of};
+ghost use Rattle.std.specs.Prelude.{◌≡◌, [], OnOk, OnErr, map, length, slice_get, option_copied};
+ghost use Rattle.qml_scope.specs.Names.{under, put, named_by, pair_of, row_name, row_found};
 ghost use Rattle.qml_scope.specs.Shapes.{same_cell, is_cell};
 
 use indexmap::IndexMap;
@@ -120,6 +120,33 @@ impl<T: Copy + Drop> Named<T> {
     {
         match self.entries.get(name.units()) {
             Some(found) => Some(*found),
+            None => None,
+        }
+    }
+
+    /// How many names there are.
+    pub fn len(&self) -> usize
+        ensures { result ≡ length self.now }
+    {
+        self.entries.len()
+    }
+
+    /// What stands under the name at the place.
+    pub fn found_at(&self, i: usize) -> Option<T>
+        ensures { result ≡ row_found (slice_get self.now i) }
+    {
+        match self.entries.get_index(i) {
+            Some(pair) => Some(*pair.1),
+            None => None,
+        }
+    }
+
+    /// The name at the place, as UTF-16 units.
+    pub fn name_at(&self, i: usize) -> Option<&[u16]>
+        ensures { option_copied result ≡ row_name (slice_get self.now i) }
+    {
+        match self.entries.get_index(i) {
+            Some(pair) => Some(pair.0.as_slice()),
             None => None,
         }
     }

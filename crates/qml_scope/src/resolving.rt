@@ -4,7 +4,6 @@ ghost use Rattle.std.specs.Prelude.{◌≡◌, option_copied};
 ghost use Rattle.std.specs.Str.{bytes_eq};
 ghost use Rattle.qml_scope.specs.Shapes.{is_in, global_names, found_here, from_here, ids_from_here, around as around_of, component_of, is_component, resolved, member_of, id_here, is_id_of};
 
-use crate::instances::{find_instance, find_root, seen, told_first};
 use crate::shape::Shape;
 use crate::shapes::Shapes;
 use qml_base::{Found, Home, ObjNo};
@@ -47,7 +46,7 @@ fn here(shapes: &Shapes, shape: &Shape, scope: Option<Found>, name: &Text) -> Op
     if let Some(found) = scope {
         return Some(found);
     }
-    seen(shapes.instances(), shape.unit, shape.root, name)
+    shapes.seen_in(shape.unit, shape.root, name)
 }
 
 /// The instance around one.
@@ -55,7 +54,7 @@ fn around<'a>(shapes: &'a Shapes, shape: &Shape) -> Option<&'a Shape>
     ensures { option_copied result ≡ around_of shapes.now.known.instances shape.now.unit shape.now.enclosing }
 {
     match shape.enclosing {
-        Some(root) => find_root(shapes.instances(), shape.unit, root),
+        Some(root) => shapes.instance_at(shape.unit, root),
         None => None,
     }
 }
@@ -90,9 +89,9 @@ fn outwards(
 fn component<'a>(shapes: &'a Shapes, home: Home) -> Option<&'a Shape>
     ensures { option_copied result ≡ component_of shapes.now.known.instances home }
 {
-    match find_instance(shapes.instances(), home.unit, home.author) {
+    match shapes.instance_of(home.unit, home.author) {
         Some(shape) => Some(shape),
-        None => find_instance(shapes.instances(), home.unit, home.scope),
+        None => shapes.instance_of(home.unit, home.scope),
     }
 }
 
@@ -102,11 +101,11 @@ fn component<'a>(shapes: &'a Shapes, home: Home) -> Option<&'a Shape>
 pub fn resolve(shapes: &Shapes, home: Home, name: &Text) -> Found
     ensures { result ≡ resolved shapes.now.known home name.now }
 {
-    let scope = seen(shapes.instances(), home.unit, home.scope, name);
+    let scope = shapes.seen_in(home.unit, home.scope, name);
     if let Some(found) = outwards(shapes, component(shapes, home), scope, name) {
         return found;
     }
-    if let Some(found) = seen(shapes.instances(), home.unit, ObjNo(0), name) {
+    if let Some(found) = shapes.seen_in(home.unit, ObjNo(0), name) {
         return found;
     }
     if is_global(name) {
@@ -153,7 +152,7 @@ fn ids(shapes: &Shapes, from: Option<&Shape>, scope: Option<Found>, name: &Text)
 pub fn is_id(shapes: &Shapes, home: Home, name: &Text) -> bool
     ensures { result ≡ is_id_of shapes.now.known home name.now }
 {
-    let scope = seen(shapes.instances(), home.unit, home.scope, name);
+    let scope = shapes.seen_in(home.unit, home.scope, name);
     ids(shapes, component(shapes, home), scope, name)
 }
 
@@ -162,7 +161,7 @@ pub fn is_id(shapes: &Shapes, home: Home, name: &Text) -> bool
 pub fn member(shapes: &Shapes, o: ObjNo, name: &Text) -> Found
     ensures { result ≡ member_of shapes.now.known o name.now }
 {
-    match told_first(shapes.instances(), o, name) {
+    match shapes.told_anywhere(o, name) {
         Some(found) => found,
         None => Found::Nothing,
     }

@@ -1,7 +1,7 @@
 //! The live instances, and the types of objects.
 
 ghost use Rattle.std.specs.Prelude.{◌≡◌, ◌<◌, ◌++◌, ◌∷◌, [], OnOk, OnErr, option_copied};
-ghost use Rattle.qml_scope.specs.Shapes.{TellsOf, ForgetsAll, types_among, instances_but, is_component, name_of_cell, has_delegate};
+ghost use Rattle.qml_scope.specs.Shapes.{TellsOf, ForgetsAll, types_among, instances_but, is_component, instance_of, instance_at, seen_in, told_anywhere, name_of_cell, has_delegate};
 ghost use Rattle.std.specs.Prelude.{map, if◌then◌else◌};
 ghost use Rattle.qml_base.specs.declared.numbers.ObjNo.{ObjNo};
 ghost use Rattle.qml_value.specs.Scrubbing.{is_among};
@@ -10,10 +10,13 @@ ghost use Rattle.qml_types.specs.declared.kind.TypeRef.TheVariants.{Builtin as b
 ghost use Rattle.qml_types.specs.declared.kind.TypeNo.TheVariants as no;
 ghost use Rattle.tree_model.specs.Converting.{same_type, has_type};
 
-use crate::instances::{cell_name, has_delegate};
+use crate::cell_names::{CellNames, cell_name, is_delegate};
+use crate::finding::{find_instance, find_root, seen, told_first};
+use crate::seats::Seats;
 use crate::shape::Shape;
 use indexmap::IndexMap;
-use qml_base::{CellNo, NoMemory, ObjNo};
+use qml_base::{CellNo, Found, NoMemory, ObjNo, UnitNo};
+use qml_text::Text;
 use qml_types::{TypeNo, TypeRef};
 use qml_value::GoneObjects;
 use std::alloc::Global;
@@ -23,6 +26,10 @@ use std::marker::Model;
 #[derive(Drop)]
 pub struct Shapes {
     instances: Vec<Shape>,
+    /// Where each object stands among them.
+    seats: Seats,
+    /// Where the names of cells stand.
+    names: CellNames,
     told: IndexMap<ObjNo, Vec<TypeRef>>,
 }
 
@@ -30,6 +37,8 @@ impl Model for Shapes {
     ghost use Rattle.std.specs.Prelude.{map};
     ghost use Rattle.indexmap.specs.IndexMap.{spare};
     ghost use Rattle.qml_scope.specs.Shapes.{Stored, told_pair};
+    ghost use Rattle.qml_scope.specs.Seats.{TellsWhole};
+    ghost use Rattle.qml_scope.specs.CellNames.{TellsNames};
 
     ghost Value = { Stored };
 
@@ -37,6 +46,8 @@ impl Model for Shapes {
       known = record { instances = shapes.instances.items; told = map told_pair shapes.told.entries };
       room = spare shapes.told;
     } };
+
+    ghost invariant = { λ shapes. TellsWhole shapes.seats.whole shapes.seats.places.entries shapes.instances.items × TellsNames shapes.names.whole shapes.names.places.entries shapes.names.delegates.entries shapes.instances.items };
 }
 
 fn is_component_type(t: TypeRef) -> bool
@@ -79,6 +90,8 @@ impl Shapes {
     {
         Shapes {
             instances: Vec::new(alloc),
+            seats: Seats::new(alloc),
+            names: CellNames::new(alloc),
             told: IndexMap::new(alloc),
         }
     }
@@ -90,15 +103,49 @@ impl Shapes {
         self.instances.as_slice()
     }
 
+    /// The first instance of the unit's component in which the object has an entry.
+    pub fn instance_of(&self, unit: UnitNo, o: ObjNo) -> Option<&Shape>
+        ensures { option_copied result ≡ instance_of self.now.known.instances unit o }
+    {
+        find_instance(self.instances.as_slice(), &self.seats, unit, o)
+    }
+
+    /// The first instance of the unit's component of which the object is the root.
+    pub fn instance_at(&self, unit: UnitNo, root: ObjNo) -> Option<&Shape>
+        ensures { option_copied result ≡ instance_at self.now.known.instances unit root }
+    {
+        find_root(self.instances.as_slice(), &self.seats, unit, root)
+    }
+
+    /// What the object has under the name, as the document sees it.
+    pub fn seen_in(&self, unit: UnitNo, o: ObjNo, name: &Text) -> Option<Found>
+        ensures { result ≡ seen_in self.now.known.instances unit o name.now }
+    {
+        seen(self.instances.as_slice(), &self.seats, unit, o, name)
+    }
+
+    /// What the object has under the name, as the first document sees it that knows the name.
+    pub fn told_anywhere(&self, o: ObjNo, name: &Text) -> Option<Found>
+        ensures { result ≡ told_anywhere self.now.known.instances o name.now }
+    {
+        told_first(self.instances.as_slice(), &self.seats, o, name)
+    }
+
     /// Adds an instance behind the others. Without memory nothing changes.
     pub fn add(&mut self, instance: Shape) -> Result<(), NoMemory>
         ensures ok { OnOk result (self.new.known.instances ≡ self.old.known.instances ++ instance ∷ []) }
         ensures err { OnErr result (self.new.known.instances ≡ self.old.known.instances) }
         ensures told { self.new.known.told ≡ self.old.known.told }
     {
+        self.seats.add(self.instances.len(), &instance);
+        self.names.add(self.instances.len(), &instance);
         match self.instances.push(instance) {
             Ok(()) => Ok(()),
-            Err(_) => Err(NoMemory),
+            Err(_) => {
+                self.seats.whole = false;
+                self.names.whole = false;
+                Err(NoMemory)
+            }
         }
     }
 
@@ -108,6 +155,8 @@ impl Shapes {
         ensures told { self.new.known.told ≡ self.old.known.told }
     {
         self.instances.retain(|shape| shape.root != root);
+        self.seats.renew(self.instances.as_slice());
+        self.names.renew(self.instances.as_slice());
     }
 
     /// Tells the types of an object, from its own on, in place of those that it had. Without memory nothing changes.
@@ -163,6 +212,8 @@ impl Shapes {
     {
         let gone = GoneObjects::new(gone);
         keep_instances(&mut self.instances, &gone);
+        self.seats.renew(self.instances.as_slice());
+        self.names.renew(self.instances.as_slice());
         keep_types(&mut self.told, &gone);
     }
 
@@ -178,13 +229,13 @@ impl Shapes {
     pub fn name_of(&self, c: CellNo) -> Option<&[u16]>
         ensures { option_copied result ≡ name_of_cell c self.now.known.instances }
     {
-        cell_name(self.instances.as_slice(), c)
+        cell_name(self.instances.as_slice(), &self.names, c)
     }
 
     /// Whether the cell is that of a delegate name.
     pub fn is_delegate_name(&self, c: CellNo) -> bool
         ensures { result ≡ has_delegate c self.now.known.instances }
     {
-        has_delegate(self.instances.as_slice(), c)
+        is_delegate(self.instances.as_slice(), &self.names, c)
     }
 }

@@ -1,6 +1,6 @@
 -- Files that lie in a set, and the end that reading comes to.
 use Rattle.std.specs.Prelude.{◌≡◌, ℕ, if◌then◌else◌, List, [], ◌∷◌, ◌++◌, map}
-use Rattle.program_names.specs.Reading.{File, ReadFile, refused_by, mentioning, is_among, reading, refused, all_read}
+use Rattle.program_names.specs.Reading.{File, Sources, ReadFile, refused_by, mentioning, is_among, read_by, reading, refused, all_read}
 use Rattle.read_order.specs.declared.file.File as code
 use Rattle.read_order.specs.declared.file.FileRead.{FileRead}
 use Rattle.read_order.specs.declared.file.FileRead.TheVariants as how
@@ -25,15 +25,9 @@ abbrev pub put_all : List File → List File → List File
 put_all files [] = files
 put_all files (file ∷ rest) = put_all (put files file) rest
 
--- how files are read
-abbrev pub Reads : Type 0
-Reads = File → ReadFile
-
--- what is told now allows no way of reading that wasn't allowed before
-abbrev pub Knows : (Reads → Type 0) → (Reads → Type 0) → Type 0
-Knows before now = (read : Reads) → now read → before read
-
 -- this is the end that reading from a root comes to, where enough files may be read
-abbrev pub IsEnd : (File → ReadFile) → File → Ended → Type 0
-IsEnd read root (ended.All files) = (n : ℕ) × (reading read n [] (root ∷ []) ≡ all_read (files_of files.keys))
-IsEnd read root (ended.Refused file fault) = (n : ℕ) × (reading read n [] (root ∷ []) ≡ refused (file_of file) fault)
+abbrev pub IsEnd : Sources → File → Ended → Type 0
+IsEnd sources root (ended.All files) =
+    (n : ℕ) × (reading (read_by sources) n [] (root ∷ []) ≡ all_read (files_of files.keys))
+IsEnd sources root (ended.Refused file fault) =
+    (n : ℕ) × (reading (read_by sources) n [] (root ∷ []) ≡ refused (file_of file) fault)

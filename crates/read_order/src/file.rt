@@ -1,12 +1,16 @@
 //! Files by their paths, and how they are read.
 
-ghost use Rattle.std.specs.Prelude.{◌≡◌, ℕ, List, IfOk};
-ghost use Rattle.type_search.specs.Causes.{Causes};
-ghost use Rattle.read_order.specs.Order.{Reads, Knows, file_of, read_of};
+ghost use Rattle.std.specs.Prelude.{◌≡◌, IfOk, Option};
+ghost use Rattle.qml_outside.specs.Folder.{Folder};
+ghost use Rattle.program_names.specs.Reading.{Sources, read_by};
+ghost use Rattle.type_search.specs.Causes.{Causes, Keeps};
+ghost use Rattle.type_search.specs.Search.{Knows};
+ghost use Rattle.read_order.specs.Order.{file_of, read_of};
 
 use indexmap::IndexSet;
 use program_names::Fault;
 use qml_base::NoMemory;
+use qml_outside::Files;
 use std::alloc::Global;
 use type_search::SearchFault;
 
@@ -56,23 +60,26 @@ pub enum FileRead {
     Mentioning(Vec<File>),
 }
 
-/// Tells how files are read.
+/// Tells how files are read, by files that are handed in and by what it was told of them before.
 pub trait Reader {
-    /// Which ways of reading files it allows, by what it has told.
-    ghost allows: { Self → Reads → Type 0 };
+    /// Which sources it allows, by what it has told.
+    ghost allows: { Self → Sources → Type 0 };
 
-    /// How many readings failed.
-    ghost faults: { Self → ℕ };
+    /// Which sources are those of files that tell this. What is told never forbids these.
+    ghost are_of: { Option Folder → Sources → Type 0 };
 
-    /// The paths of the files whose reading failed, oldest first.
-    ghost failed: { Self → List (List ℕ) };
-
-    /// Reads a file. What was told of any file stays so. Failed comes only where the count of faults rose in this call; want of
-    /// memory is free.
-    fn read_file(&mut self, alloc: Global, file: &File) -> Result<FileRead, SearchFault>
-        ensures told { IfOk result (λ how. (read : Reads) → allows self.new read → read_of how ≡ read (file_of file.now)) }
+    /// Reads a file. What was told of any file stays so. Failed comes only where the files' count of faults rose in this call;
+    /// want of memory is free.
+    fn read_file<F: Files>(
+        &mut self,
+        alloc: Global,
+        files: &mut F,
+        file: &File,
+    ) -> Result<FileRead, SearchFault>
+        ensures told { IfOk result (λ how. (sources : Sources) → allows self.new sources → read_of how ≡ read_by sources (file_of file.now)) }
         ensures steady { Knows (allows self.old) (allows self.new) }
-        ensures cause { Causes (faults self.old) (faults self.new) (failed self.old) (failed self.new) result };
+        ensures real { Keeps (allows self.old) (allows self.new) are_of (F.told files.old) (F.told files.new) }
+        ensures cause { Causes (F.faults files.old) (F.faults files.new) (F.failed files.old) (F.failed files.new) result };
 }
 
 /// How reading ended: with all files in the order in which they were read, or with the first that is refused, and its fault.

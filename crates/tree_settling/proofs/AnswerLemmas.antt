@@ -1,5 +1,5 @@
 -- Answers of evaluations that read a cell first.
-use Rattle.std.proofs.Common.{◌≡◌, ◌∙◌, ap, sym, refl, suc, length, List, [], ◌∷◌, ◌++◌, append_assoc, Option, Some, None}
+use Rattle.std.proofs.Common.{◌≡◌, ◌∙◌, ap, refl, suc, length, List, [], ◌∷◌, ◌++◌, append_assoc, Some, None}
 use Rattle.qml_base.specs.declared.numbers.CellNo.{CellNo}
 use Rattle.qml_value.specs.declared.value.Value.{Value, List as list_value, List', Row_of-Value, end_of-Value, more_of-Value, items-the_row-Value, items_hidden-the_row-Value-0}
 use mathlib.Core.Former.{Count}
@@ -7,8 +7,8 @@ use Rattle.tree_model.specs.Rules.{rows_inside, rows_held}
 use Rattle.evaluation.specs.declared.came.Evaluated.{Evaluated}
 use Rattle.evaluation.specs.declared.came.Evaluated.TheVariants as answer
 use Rattle.evaluation.specs.Ask.{Ask, Names, reads}
-use Rattle.evaluation.specs.Evaluating.{Seen, is, looped, past}
-use Rattle.evaluation.specs.Hearing.{Views, Heard, noted, by_reading, heard, Answers}
+use Rattle.evaluation.specs.Evaluating.{is, looped, past}
+use Rattle.evaluation.specs.Hearing.{Views, Heard, noted, heard, Answers}
 
 noted_answer : (h : Heard) (c : CellNo) (old new : List CellNo) (e : Evaluated) → Answers h (old ++ c ∷ []) new e → Answers (noted c h) old new e
 noted_answer h c old new (answer.Value v) k = (k.0, k.1 ∙ append_assoc old (c ∷ []) h.reads)

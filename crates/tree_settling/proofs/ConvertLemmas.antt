@@ -1,7 +1,7 @@
 -- What conversion answers is what the function says.
-use Rattle.std.proofs.Common.{rules, ◌≡◌, ◌≢◌, ◌∙◌, ap, sym, refl, ℕ, zero, suc, ◌+◌, ◌<◌, ◌↔◌, ℤ, pos, nat_eq, not, ◌||◌, IsTrue, Bool as 𝔹, true, false, List as list, [], ◌∷◌, length, slice_get, slice_index_or, arith, if◌then◌else◌}
+use Rattle.std.proofs.Common.{rules, ◌≡◌, ◌≢◌, ◌∙◌, ap, sym, refl, ℕ, zero, suc, ◌<◌, ◌↔◌, ℤ, pos, nat_eq, not, ◌||◌, IsTrue, Bool as 𝔹, true, false, List as list, [], ◌∷◌, length, slice_get, slice_index_or, arith}
 use Rattle.std.proofs.lemmas.Bool.Decides.{Decides-int_eq}
-use Rattle.std.specs.declared.option.Option.TheVariants.{None, Some}
+use Rattle.std.specs.declared.option.Option.TheVariants.{Some}
 use Rattle.std.specs.declared.result.Result.TheVariants.{Ok, Err}
 use Rattle.std.specs.List.{Contains}
 use Rattle.std.specs.Ordering.{int_eq}
@@ -18,11 +18,10 @@ use Rattle.qml_types.specs.declared.kind.TypeRef.TheVariants.{Builtin, Document}
 use Rattle.qml_types.specs.declared.kind.PropKind.{PropKind}
 use Rattle.qml_types.specs.declared.kind.PropKind.TheVariants as kind
 use Rattle.qml_types.specs.declared.conversion.ConvertFault.TheVariants as fault
-use Rattle.qml_types.specs.Conversion.{IsNumber, IsWord, IsThere, IsComponent, IsObjectOf, Takes, IsAsText, IsAsTruth, Becomes, IsConverted}
-use Rattle.evaluation.specs.declared.came.Came.{Came}
+use Rattle.qml_types.specs.Conversion.{IsNumber, IsWord, IsThere, IsComponent, IsObjectOf, IsAsTruth, IsConverted}
 use Rattle.evaluation.specs.declared.came.Came.TheVariants as came
 use Rattle.qml_base.specs.declared.cause.Cause.TheVariants as cause
-use Rattle.tree_model.specs.Converting.{all_types, type_number, same_type, has_type, is_there, truth_of, as_number, as_text, as_truth, as_object, as_component, convert_of}
+use Rattle.tree_model.specs.Converting.{all_types, type_number, same_type, has_type, truth_of, as_number, as_text, as_truth, as_object, as_component, convert_of}
 use Rattle.tree_settling.specs.Tables.{types_named}
 
 -- ---- types

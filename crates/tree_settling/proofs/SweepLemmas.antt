@@ -1,7 +1,7 @@
 -- Visits keep the table right, and where all rest it says what is fresh.
 use Rattle.std.proofs.Common.{◌≡◌, ◌≢◌, ◌∙◌, ap, sym, subst, refl, ℕ, zero, suc, ◌+◌, ◌-◌, ◌<◌, ◌≤◌, ◌⊎◌, inl, inr, Bool, true, false, List, [], ◌∷◌, length, slice_get, slice_set, count_by, length-set, arith, if◌then◌else◌}
 use Rattle.std.proofs.lemmas.Bool.{cases_eq, cases_lt}
-use Rattle.std.proofs.lemmas.Option.{slice_get_past, slice_get_within}
+use Rattle.std.proofs.lemmas.Option.{slice_get_within}
 use Rattle.std.proofs.lemmas.Grind.{common_steps}
 use Rattle.std.specs.declared.option.Option.{Option}
 use Rattle.std.specs.declared.option.Option.TheVariants.{None, Some}
@@ -13,13 +13,13 @@ use Rattle.tree_model.specs.declared.cells.Binding.{Binding}
 use Rattle.tree_model.specs.declared.cells.Content.{Content}
 use Rattle.tree_model.specs.declared.cells.Content.TheVariants.{Plain, Bound}
 use Rattle.tree_model.specs.declared.cells.Object.{Object}
-use Rattle.tree_model.specs.Systems.{Outcomes, Step, given, ruled, step_of, if_there, Keeps, IsSteady, AllSteady, Solves}
+use Rattle.tree_model.specs.Systems.{given, ruled, step_of, if_there, Keeps, IsSteady, Solves}
 use Rattle.tree_model.specs.Rules.{World}
 use Rattle.tree_model.specs.Settling.{Tree, step, steps, content_step, fresh, is_active, came_of}
 use Rattle.tree_model.proofs.DepthLemmas.{content_keeps}
 use Rattle.tree_model.proofs.SteadyLemmas.{all_steady, came_steady, step_at}
 use Rattle.tree_model.proofs.SettlingLemmas.{fresh_solves, fresh_least}
-use Rattle.tree_settling.specs.Tables.{Table, read_in, there_came, entry_came, own_value, BegunContent, AllBegun, Ready, IsRuled, IsRight, is_loop, loops_in, Visited, StillLoops, Visits, Swept, turn_of, world_of, tree_of}
+use Rattle.tree_settling.specs.Tables.{Table, read_in, there_came, entry_came, own_value, BegunContent, AllBegun, Ready, IsRuled, IsRight, is_loop, loops_in, Visited, StillLoops, Visits, Swept, turn_of, tree_of}
 
 -- ---- one entry of a table
 get_set_same : (xs : Table) (i : ℕ) (y : Option Came) → i < length xs → slice_get (slice_set xs i y) i ≡ Some y
@@ -44,7 +44,7 @@ slice_there_cells [] i h e = absurd (omega arith)
 slice_there_cells (x ∷ xs) zero h e = cc
 slice_there_cells (x ∷ xs) (suc i) h e = slice_there_cells xs i (omega arith) e
 
-count_loop : (x : Option Came) (xs : Table) → count_by is_loop (x ∷ xs) ≡ (if is_loop x then 1 else 0) + count_by is_loop xs
+pub count_loop : (x : Option Came) (xs : Table) → count_by is_loop (x ∷ xs) ≡ (if is_loop x then 1 else 0) + count_by is_loop xs
 count_loop x xs = grind (arith, common_steps)
 
 falls : (xs : Table) (i : ℕ) (o : Came) → slice_get xs i ≡ Some (Some came.Loop) → o ≢ came.Loop → loops_in (slice_set xs i (Some o)) < loops_in xs

@@ -1,5 +1,5 @@
 -- What is told, cell by cell, and what the cells take.
-use Rattle.std.proofs.Common.{◌≡◌, ◌≢◌, ◌∙◌, ap, sym, subst, refl, ℕ, zero, suc, ◌+◌, ◌<◌, ◌≤◌, ◌⊎◌, inl, inr, add-one, add-zero, zero-add, Bool, true, false, List, [], ◌∷◌, ◌++◌, append_assoc, length, slice_get, drop, get_or, arith}
+use Rattle.std.proofs.Common.{◌≡◌, ◌≢◌, ◌∙◌, ap, sym, subst, refl, ℕ, zero, suc, ◌+◌, ◌<◌, ◌≤◌, ◌⊎◌, inl, inr, add-one, add-zero, zero-add, true, false, List, [], ◌∷◌, ◌++◌, append_assoc, length, slice_get, drop, get_or, arith}
 use Rattle.std.proofs.Math.Seq.{drop-cons}
 use Rattle.std.proofs.lemmas.Bool.{cases_lt}
 use Rattle.std.proofs.lemmas.Option.{slice_get_read, slice_get-get_or}
@@ -11,8 +11,8 @@ use Rattle.tree_model.specs.declared.cells.Cell.{Cell}
 use Rattle.qml_base.specs.declared.numbers.CellNo.{CellNo}
 use Rattle.tree_model.specs.declared.cells.Report.{Report}
 use Rattle.tree_model.specs.Systems.{Outcomes}
-use Rattle.tree_model.specs.Settling.{taking, taking_all, outcome_by, IsLowestPast, NonePast}
-use Rattle.tree_model.specs.Telling.{Changes, Reports, told_of, none, same, other, no_report, kept, silent, told}
+use Rattle.tree_model.specs.Settling.{taking, taking_all, IsLowestPast, NonePast}
+use Rattle.tree_model.specs.Telling.{Changes, Reports, none, same, other, no_report, kept, silent, told}
 use Rattle.tree_model.specs.declared.cells.Object.{Object}
 use Rattle.tree_settling.specs.Tables.{Table, read_in, there_came, entry_came, own_value, Ready, AllBegun, taken, is_past, Tells, spare_needed, spares_needed}
 use Rattle.qml_value.specs.declared.value.Value.{Value}

@@ -1,6 +1,7 @@
 //! Settling all cells at once.
-ghost use Rattle.std.specs.Prelude.{◌≡◌, ◌≤◌, length};
-ghost use Rattle.tree_settling.specs.Tables.{AllBegun, world_of, tree_of};
+ghost use Rattle.std.specs.Prelude.{◌≡◌, ◌≤◌, ◌+◌, length};
+ghost use Rattle.tree_settling.specs.Tables.{AllBegun, loops_in, world_of, tree_of};
+ghost use Rattle.tree_settling.specs.Steps.{most_steps, sum_to};
 ghost use Rattle.tree_settling.specs.Settles.{Settles};
 ghost use Rattle.property_store.specs.Lying.{IsPlaced};
 
@@ -66,6 +67,7 @@ pub fn settle<L: Ledger, R: Rules<L>, N: Lookup>(
     ensures settles { Settles (world_of (N.names lookup.now) (N.types lookup.now) (R.asks rules.old)) (tree_of objects.now.objects cells.old) result cells.new }
     ensures same { R.asks rules.new ≡ R.asks rules.old }
     ensures steps { steps.old ≤ steps.new }
+    ensures few { steps.new ≤ steps.old + most_steps (tree_of objects.now.objects cells.old) }
 {
     let mut table = begin(alloc, objects, cells)?;
     settle_by(
@@ -97,6 +99,7 @@ fn settle_by<L: Ledger, R: Rules<L>, N: Lookup>(
     ensures settles { Settles (world_of (N.names lookup.now) (N.types lookup.now) (R.asks rules.old)) (tree_of _objects.now.objects cells.old) result cells.new }
     ensures same { R.asks rules.new ≡ R.asks rules.old }
     ensures steps { steps.old ≤ steps.new }
+    ensures few { steps.new ≤ steps.old + sum_to (loops_in table.old) }
 {
     refresh(alloc, rules, lookup, starts, cells, table, steps)?;
     if let Some(cell) = lowest_past(cells, table) {

@@ -3,7 +3,8 @@ ghost use Rattle.std.specs.Prelude.{◌≡◌, ◌<◌, ◌≤◌, ◌+◌, ℕ,
 ghost use Rattle.evaluation.specs.declared.came.Came.TheVariants as came;
 ghost use Rattle.tree_model.specs.declared.cells.Object.{Object};
 ghost use Rattle.tree_model.specs.Settling.{fresh as fresh_of, is_active as active_in};
-ghost use Rattle.tree_settling.specs.Tables.{BegunContent, BegunPlain, AllBegun, Ready, is_loop, read_in, IsRight, Visits, Swept, turn_of, world_of, tree_of};
+ghost use Rattle.tree_settling.specs.Tables.{BegunContent, BegunPlain, AllBegun, Ready, is_loop, loops_in, read_in, IsRight, Visits, Swept, turn_of, world_of, tree_of};
+ghost use Rattle.tree_settling.specs.Steps.{loops_at, sum_to};
 ghost use Rattle.property_store.specs.Lying.{IsPlaced};
 
 use crate::evaluate::evaluate;
@@ -74,7 +75,7 @@ fn loops(came: &Came) -> bool
     }
 }
 
-/// Evaluates one cell that still loops. Says whether it came to something.
+/// Evaluates one cell, if it still loops, in one step. Says whether it came to something.
 fn visit<L: Ledger, R: Rules<L>, N: Lookup>(
     alloc: Global,
     rules: &mut R,
@@ -92,7 +93,7 @@ fn visit<L: Ledger, R: Rules<L>, N: Lookup>(
     ensures visits { IfOk result (λ came. Visits (world_of (N.names lookup.now) (N.types lookup.now) (R.asks rules.old)) cells.now table.old at came table.new) }
     ensures same { R.asks rules.new ≡ R.asks rules.old }
     ensures steps { steps.old ≤ steps.new }
-    ensures one { steps.new ≤ steps.old + 1 }
+    ensures few { steps.new ≤ steps.old + loops_at table.old at }
 {
     let Some(Came::Loop) = &table[at] else {
         return Ok(false);
@@ -139,6 +140,7 @@ fn sweep<L: Ledger, R: Rules<L>, N: Lookup>(
     ensures right { (objects : List Object) → IsRight (world_of (N.names lookup.now) (N.types lookup.now) (R.asks rules.old)) (tree_of objects cells.now) table.old → IfOk result (λ came. IsRight (world_of (N.names lookup.now) (N.types lookup.now) (R.asks rules.old)) (tree_of objects cells.now) table.new) }
     ensures same { R.asks rules.new ≡ R.asks rules.old }
     ensures steps { steps.old ≤ steps.new }
+    ensures few { steps.new ≤ steps.old + loops_in table.old }
 {
     let mut progress = false;
     for k in 0..cells.len() {
@@ -166,6 +168,7 @@ pub fn refresh<L: Ledger, R: Rules<L>, N: Lookup>(
     ensures ready { (objects : List Object) → AllBegun objects cells.now table.old → IfOk result (λ done. Ready cells.now table.new) }
     ensures same { R.asks rules.new ≡ R.asks rules.old }
     ensures steps { steps.old ≤ steps.new }
+    ensures few { steps.new ≤ steps.old + sum_to (loops_in table.old) }
 {
     let mut reads = Vec::new(alloc);
     let mut up = true;

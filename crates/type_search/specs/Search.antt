@@ -7,6 +7,7 @@ use Rattle.qml_types.specs.Table.{offered, offers}
 use Rattle.program_names.specs.Paths.{Path, joined_to}
 use Rattle.program_names.specs.Utf8.{utf8_of}
 use Rattle.program_names.specs.Types.{TypeFound, built_in, in_file}
+use Rattle.program_names.specs.Reading.{Source as FileSource, no_file, Sources}
 use Rattle.document_imports.specs.Imports.{Row, Source, a_module, a_directory, a_script}
 use Rattle.type_search.specs.declared.search.TypeFound as code
 use Rattle.type_search.specs.declared.search.TypeFound.TheVariants as found
@@ -48,10 +49,18 @@ abbrev pub searched : Exists → Path → List Row → Option Units → Units �
 searched exists here rows wanted name =
     option_or (rows_type exists wanted name (reverse rows)) (own_type exists here wanted name)
 
--- what was found is what this says for all files that what is known allows
-abbrev pub Finds : (Exists → Type 0) → Option code.TypeFound → (Exists → Option TypeFound) → Type 0
-Finds allows f means = (exists : Exists) → allows exists → option_map found_value f ≡ means exists
+abbrev is_there : FileSource → Bool
+is_there no_file = false
+is_there _ = true
 
--- what is known now allows no files that it didn't allow before
-abbrev pub Knows : (Exists → Type 0) → (Exists → Type 0) → Type 0
-Knows before now = (exists : Exists) → now exists → before exists
+-- whether there is a document of a path
+abbrev pub is_file : Sources → Exists
+is_file sources path = is_there (sources (record { is_script = false; path = path }))
+
+-- what was found is what this says for all sources that what is known allows
+abbrev pub Finds : (Sources → Type 0) → Option code.TypeFound → (Exists → Option TypeFound) → Type 0
+Finds allows f means = (sources : Sources) → allows sources → option_map found_value f ≡ means (is_file sources)
+
+-- what is known now allows no sources that it didn't allow before
+abbrev pub Knows : (Sources → Type 0) → (Sources → Type 0) → Type 0
+Knows before now = (sources : Sources) → now sources → before sources

@@ -1,9 +1,12 @@
 //! Files that a search asks for.
 
-ghost use Rattle.std.specs.Prelude.{◌≡◌, ℕ, Bool, List, IfOk};
-ghost use Rattle.type_search.specs.Causes.{Causes};
-ghost use Rattle.type_search.specs.Search.{Exists, Knows};
+ghost use Rattle.std.specs.Prelude.{◌≡◌, IfOk, Option};
+ghost use Rattle.qml_outside.specs.Folder.{Folder};
+ghost use Rattle.program_names.specs.Reading.{Sources};
+ghost use Rattle.type_search.specs.Causes.{Causes, Keeps};
+ghost use Rattle.type_search.specs.Search.{Knows, is_file as is_file_of};
 
+use qml_outside::Files;
 use std::alloc::Global;
 
 /// Why a search has no answer.
@@ -15,21 +18,24 @@ pub enum SearchFault {
     NoMemory,
 }
 
-/// Tells which files are there.
+/// Tells which documents are there, by files that are handed in and by what it was told of them before.
 pub trait FileSearch {
-    /// Which files it allows, by what it has told.
-    ghost allows: { Self → Exists → Type 0 };
+    /// Which sources it allows, by what it has told.
+    ghost allows: { Self → Sources → Type 0 };
 
-    /// How many readings failed.
-    ghost faults: { Self → ℕ };
+    /// Which sources are those of files that tell this. What is told never forbids these.
+    ghost are_of: { Option Folder → Sources → Type 0 };
 
-    /// The paths of the files whose reading failed, oldest first.
-    ghost failed: { Self → List (List ℕ) };
-
-    /// Whether there is a file of this path. Failed comes only where the count of faults rose in this call; want of memory
-    /// is free.
-    fn is_file(&mut self, alloc: Global, path: &[u8]) -> Result<bool, SearchFault>
-        ensures told { IfOk result (λ found. (exists : Exists) → allows self.new exists → found ≡ exists path.now) }
+    /// Whether there is a document of this path. Failed comes only where the files' count of faults rose in this call; want of
+    /// memory is free.
+    fn is_file<F: Files>(
+        &mut self,
+        alloc: Global,
+        files: &mut F,
+        path: &[u8],
+    ) -> Result<bool, SearchFault>
+        ensures told { IfOk result (λ found. (sources : Sources) → allows self.new sources → found ≡ is_file_of sources path.now) }
         ensures steady { Knows (allows self.old) (allows self.new) }
-        ensures cause { Causes (faults self.old) (faults self.new) (failed self.old) (failed self.new) result };
+        ensures real { Keeps (allows self.old) (allows self.new) are_of (F.told files.old) (F.told files.new) }
+        ensures cause { Causes (F.faults files.old) (F.faults files.new) (F.failed files.old) (F.failed files.new) result };
 }

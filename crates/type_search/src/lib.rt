@@ -1,6 +1,6 @@
 //! The search of types by their names in a document: the imports from the last to the first, each by its qualifier, then the
 //! document's own directory. Whether a file is there is asked of a trait, one path after another, and no further than the
-//! first that is found. It promises that what is found is what `program_names` finds, for any files that agree with what was
+//! first that is found. It promises that what is found is what `program_names` finds, for all sources that agree with what was
 //! told.
 #![tactic(auto)]
 

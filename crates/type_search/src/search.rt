@@ -5,13 +5,14 @@ ghost use Rattle.std.specs.Option.{option_map};
 ghost use Rattle.qml_types.specs.Table.{offered, offers};
 ghost use Rattle.program_names.specs.Types.{built_in};
 ghost use Rattle.document_imports.specs.Imports.{row_value, row_values};
-ghost use Rattle.type_search.specs.Causes.{Causes};
+ghost use Rattle.type_search.specs.Causes.{Causes, Keeps};
 ghost use Rattle.type_search.specs.Search.{Finds, Knows, found_value, same_qualifier as is_same_qualifier, file_in as file_by, row_type as row_by, rows_type as rows_by, own_type as own_by, searched};
 
 use crate::files::{FileSearch, SearchFault};
 use document_imports::{ImportRow, ImportSource};
 use file_paths::{ascii_name, path_of_type};
 use qml_base::NoMemory;
+use qml_outside::Files;
 use qml_text::Text;
 use qml_types::{TypeNo, lookup};
 use std::alloc::Global;
@@ -36,20 +37,22 @@ fn same_qualifier(wanted: &Option<Text>, own: &Option<Text>) -> bool
 }
 
 /// The file of a type in a directory, if it is there.
-fn file_in<D: FileSearch>(
+fn file_in<D: FileSearch, F: Files>(
     alloc: Global,
-    files: &mut D,
+    known: &mut D,
+    files: &mut F,
     directory: &[u8],
     name: &Text,
 ) -> Result<Option<TypeFound>, SearchFault>
-    ensures told { IfOk result (λ f. Finds (D.allows files.new) f (λ exists. file_by exists directory.now name.now)) }
-    ensures steady { Knows (D.allows files.old) (D.allows files.new) }
-    ensures cause { Causes (D.faults files.old) (D.faults files.new) (D.failed files.old) (D.failed files.new) result }
+    ensures told { IfOk result (λ f. Finds (D.allows known.new) f (λ exists. file_by exists directory.now name.now)) }
+    ensures steady { Knows (D.allows known.old) (D.allows known.new) }
+    ensures real { Keeps (D.allows known.old) (D.allows known.new) D.are_of (F.told files.old) (F.told files.new) }
+    ensures cause { Causes (F.faults files.old) (F.faults files.new) (F.failed files.old) (F.failed files.new) result }
 {
     let Ok(path) = path_of_type(alloc, directory, name) else {
         return Err(SearchFault::NoMemory);
     };
-    match files.is_file(alloc, &path) {
+    match known.is_file(alloc, files, &path) {
         Ok(true) => Ok(Some(TypeFound::InFile(path))),
         Ok(false) => Ok(None),
         Err(fault) => Err(fault),
@@ -73,16 +76,18 @@ fn module_type(alloc: Global, from: &Text, name: &Text) -> Result<Option<TypeFou
 }
 
 /// The type that one import has under a name.
-fn row_type<D: FileSearch>(
+fn row_type<D: FileSearch, F: Files>(
     alloc: Global,
-    files: &mut D,
+    known: &mut D,
+    files: &mut F,
     row: &ImportRow,
     wanted: &Option<Text>,
     name: &Text,
 ) -> Result<Option<TypeFound>, SearchFault>
-    ensures told { IfOk result (λ f. Finds (D.allows files.new) f (λ exists. row_by exists wanted.now name.now (row_value row.now))) }
-    ensures steady { Knows (D.allows files.old) (D.allows files.new) }
-    ensures cause { Causes (D.faults files.old) (D.faults files.new) (D.failed files.old) (D.failed files.new) result }
+    ensures told { IfOk result (λ f. Finds (D.allows known.new) f (λ exists. row_by exists wanted.now name.now (row_value row.now))) }
+    ensures steady { Knows (D.allows known.old) (D.allows known.new) }
+    ensures real { Keeps (D.allows known.old) (D.allows known.new) D.are_of (F.told files.old) (F.told files.new) }
+    ensures cause { Causes (F.faults files.old) (F.faults files.new) (F.failed files.old) (F.failed files.new) result }
 {
     if !same_qualifier(wanted, &row.qualifier) {
         return Ok(None);
@@ -92,26 +97,28 @@ fn row_type<D: FileSearch>(
             Ok(found) => Ok(found),
             Err(NoMemory) => Err(SearchFault::NoMemory),
         },
-        ImportSource::Directory(directory) => file_in(alloc, files, directory, name),
+        ImportSource::Directory(directory) => file_in(alloc, known, files, directory, name),
         ImportSource::Script(_) => Ok(None),
     }
 }
 
 /// The type that the last of these imports that has one has under a name.
-fn rows_type<D: FileSearch>(
+fn rows_type<D: FileSearch, F: Files>(
     alloc: Global,
-    files: &mut D,
+    known: &mut D,
+    files: &mut F,
     rows: &[ImportRow],
     wanted: &Option<Text>,
     name: &Text,
 ) -> Result<Option<TypeFound>, SearchFault>
-    ensures told { IfOk result (λ f. Finds (D.allows files.new) f (λ exists. rows_by exists wanted.now name.now (reverse (row_values rows.now)))) }
-    ensures steady { Knows (D.allows files.old) (D.allows files.new) }
-    ensures cause { Causes (D.faults files.old) (D.faults files.new) (D.failed files.old) (D.failed files.new) result }
+    ensures told { IfOk result (λ f. Finds (D.allows known.new) f (λ exists. rows_by exists wanted.now name.now (reverse (row_values rows.now)))) }
+    ensures steady { Knows (D.allows known.old) (D.allows known.new) }
+    ensures real { Keeps (D.allows known.old) (D.allows known.new) D.are_of (F.told files.old) (F.told files.new) }
+    ensures cause { Causes (F.faults files.old) (F.faults files.new) (F.failed files.old) (F.failed files.new) result }
 {
     let mut rest = rows;
     'rows: while let Some((row, front)) = rest.split_last() {
-        match row_type(alloc, files, row, wanted, name) {
+        match row_type(alloc, known, files, row, wanted, name) {
             Ok(None) => {}
             answer => return answer,
         }
@@ -121,40 +128,44 @@ fn rows_type<D: FileSearch>(
 }
 
 /// The type in a document's own directory, which has no qualifier.
-fn own_type<D: FileSearch>(
+fn own_type<D: FileSearch, F: Files>(
     alloc: Global,
-    files: &mut D,
+    known: &mut D,
+    files: &mut F,
     here: &[u8],
     wanted: &Option<Text>,
     name: &Text,
 ) -> Result<Option<TypeFound>, SearchFault>
-    ensures told { IfOk result (λ f. Finds (D.allows files.new) f (λ exists. own_by exists here.now wanted.now name.now)) }
-    ensures steady { Knows (D.allows files.old) (D.allows files.new) }
-    ensures cause { Causes (D.faults files.old) (D.faults files.new) (D.failed files.old) (D.failed files.new) result }
+    ensures told { IfOk result (λ f. Finds (D.allows known.new) f (λ exists. own_by exists here.now wanted.now name.now)) }
+    ensures steady { Knows (D.allows known.old) (D.allows known.new) }
+    ensures real { Keeps (D.allows known.old) (D.allows known.new) D.are_of (F.told files.old) (F.told files.new) }
+    ensures cause { Causes (F.faults files.old) (F.faults files.new) (F.failed files.old) (F.failed files.new) result }
 {
     if wanted.is_some() {
         return Ok(None);
     }
-    file_in(alloc, files, here, name)
+    file_in(alloc, known, files, here, name)
 }
 
 /// The type that a name finds in a document of a directory, with a qualifier or none. For all files that agree with what
 /// the trait has told, it is that of the definition. Files are asked for one after another, and no further than the first
 /// that is found.
-pub fn find_type<D: FileSearch>(
+pub fn find_type<D: FileSearch, F: Files>(
     alloc: Global,
-    files: &mut D,
+    known: &mut D,
+    files: &mut F,
     here: &[u8],
     rows: &[ImportRow],
     wanted: &Option<Text>,
     name: &Text,
 ) -> Result<Option<TypeFound>, SearchFault>
-    ensures told { IfOk result (λ f. Finds (D.allows files.new) f (λ exists. searched exists here.now (row_values rows.now) wanted.now name.now)) }
-    ensures steady { Knows (D.allows files.old) (D.allows files.new) }
-    ensures cause { Causes (D.faults files.old) (D.faults files.new) (D.failed files.old) (D.failed files.new) result }
+    ensures told { IfOk result (λ f. Finds (D.allows known.new) f (λ exists. searched exists here.now (row_values rows.now) wanted.now name.now)) }
+    ensures steady { Knows (D.allows known.old) (D.allows known.new) }
+    ensures real { Keeps (D.allows known.old) (D.allows known.new) D.are_of (F.told files.old) (F.told files.new) }
+    ensures cause { Causes (F.faults files.old) (F.faults files.new) (F.failed files.old) (F.failed files.new) result }
 {
-    match rows_type(alloc, files, rows, wanted, name) {
-        Ok(None) => own_type(alloc, files, here, wanted, name),
+    match rows_type(alloc, known, files, rows, wanted, name) {
+        Ok(None) => own_type(alloc, known, files, here, wanted, name),
         answer => answer,
     }
 }

@@ -1,1 +1,3 @@
--- Definitions alone: there is nothing to prove.
+mod PartLemmas
+mod NameLemmas
+mod BodyLemmas

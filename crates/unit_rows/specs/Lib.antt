@@ -4,3 +4,6 @@ pub mod Bodies
 pub mod Given
 pub mod NamesOfObjects
 pub mod UnitRows
+pub mod Texts
+pub mod Placed
+pub mod Seen

@@ -1,10 +1,9 @@
 //! The tables of a unit.
 
+use crate::bodies::UnitBodies;
 use crate::given::{ChangeRow, ValueRow};
 use crate::names::{CellRow, HandlerRow, NameRow};
 use crate::row_list::Rows;
-use qml_base::Place;
-use qml_syntax::Tree;
 use qml_text::Text;
 use qml_types::TypeRef;
 use qml_value::Value;
@@ -44,26 +43,13 @@ pub struct ComponentRow {
     pub ids: Rows<(Text, u32)>,
 }
 
-/// A body, by the place of its part in the unit's tree.
-#[derive(Drop)]
-pub enum BodyRow {
-    /// A statement, with a handler's parameters.
-    Statement { at: u32, parameters: Rows<Text> },
-    Function { at: u32 },
-    /// The statements of the function of a `Qt.binding`, or of a line of a script.
-    Statements { at: u32 },
-}
-
 /// What is kept of a loaded document or script.
 #[derive(Drop)]
 pub struct Unit {
     pub objects: Rows<ObjectRow>,
     pub components: Rows<ComponentRow>,
-    /// The tree of the document or script.
-    pub tree: Tree,
-    pub bodies: Rows<BodyRow>,
-    /// The places of the `Qt.binding`s, with the bodies of their functions.
-    pub bindings: Rows<(Place, u32)>,
+    /// Its tree, with its bodies.
+    pub bodies: UnitBodies,
     /// The qualifiers of its scripts; the first that is found counts.
     pub scripts: Rows<(Text, u32)>,
     /// A script's functions with their bodies; likewise.

@@ -1,5 +1,5 @@
 use Rattle.std.proofs.Common.{◌≡◌, ◌∙◌, ◌-◌, suc, arith}
-use Rattle.instancing.specs.Seen.{all_seen}
+use Rattle.unit_rows.specs.Seen.{all_seen}
 use Rattle.instancing.specs.Frames.{opens}
 use Rattle.instancing.proofs.StackLemmas.{entered, not_deep, at_builtin}
 use Rattle.instancing.proofs.numbers.enter.Goals as goal

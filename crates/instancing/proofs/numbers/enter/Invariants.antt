@@ -1,6 +1,6 @@
 use Rattle.std.proofs.Common.{◌≡◌}
 use Rattle.instance_plans.specs.Numbers.{Plan, inner_within}
-use Rattle.instancing.specs.Seen.{all_seen}
+use Rattle.unit_rows.specs.Seen.{all_seen}
 use Rattle.instancing.specs.Stack.{resumed}
 use Rattle.instancing.specs.Frames.{opens}
 use Rattle.instancing.proofs.numbers.enter.Given as goal

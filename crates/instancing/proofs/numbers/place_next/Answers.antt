@@ -1,5 +1,5 @@
 use Rattle.std.proofs.Common.{◌≡◌, ◌≤◌, false, nat_eq, length, rules, arith}
-use Rattle.instancing.specs.Seen.{all_seen}
+use Rattle.unit_rows.specs.Seen.{all_seen}
 use Rattle.instancing.specs.Frames.{opens, open_of, plan_so_far}
 use Rattle.instancing.proofs.GrowthLemmas.{full_next}
 use Rattle.instancing.proofs.numbers.place_next.Goals as goal

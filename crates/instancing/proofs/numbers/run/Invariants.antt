@@ -1,5 +1,5 @@
 use Rattle.std.proofs.Common.{◌≡◌, ◌≤◌, length}
-use Rattle.instancing.specs.Seen.{all_seen}
+use Rattle.unit_rows.specs.Seen.{all_seen}
 use Rattle.instancing.specs.Frames.{planned_now}
 use Rattle.instancing.proofs.numbers.run.Given as goal
 

@@ -1,6 +1,6 @@
 use Rattle.std.proofs.Common.{◌≡◌, ◌∙◌, ◌+◌, ap, refl, false, List, [], ◌∷◌, length, rules}
 use Rattle.instance_plans.specs.declared.planned.Planned.{Planned}
-use Rattle.instancing.specs.Seen.{all_seen}
+use Rattle.unit_rows.specs.Seen.{all_seen}
 use Rattle.instancing.specs.Stack.{resumed, begun, plan_of}
 use Rattle.instancing.specs.Frames.{opens}
 use Rattle.instancing.proofs.StackLemmas.{started}

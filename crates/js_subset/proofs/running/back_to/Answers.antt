@@ -1,6 +1,6 @@
 use Rattle.js_locals.specs.Laid.{laid}
 use Rattle.js_frames.specs.Standing.{standing}
-use Rattle.js_frames.proofs.EndLemmas.{assigns_at, takes_at, resumes_at}
+use Rattle.js_progress.proofs.MovingLemmas.{assigns_at, takes_at, resumes_at}
 use Rattle.js_subset.proofs.running.back_to.Goals as goal
 
 pub returns-in_ok-next : goal.returns-in_ok-next

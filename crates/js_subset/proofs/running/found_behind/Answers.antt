@@ -1,6 +1,6 @@
 use Rattle.js_locals.specs.Laid.{laid}
 use Rattle.js_frames.specs.Standing.{standing}
-use Rattle.js_frames.proofs.EndLemmas.{found_for}
+use Rattle.js_progress.proofs.MovingLemmas.{found_for}
 use Rattle.js_subset.proofs.running.found_behind.Goals as goal
 
 pub returns : goal.returns

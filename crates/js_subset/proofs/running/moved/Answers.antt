@@ -1,5 +1,5 @@
 use Rattle.js_frames.specs.Standing.{standing}
-use Rattle.js_frames.proofs.CallLemmas.{enters_when, done_when, given_when, stopped_when, repeated_when}
+use Rattle.js_progress.proofs.MovingLemmas.{enters_when, done_when, given_when, stopped_when, repeated_when, within_at}
 use Rattle.js_subset.proofs.running.moved.Goals as goal
 
 pub returns-in_ok-next-in-Enter : goal.returns-in_ok-next-in-Enter
@@ -21,3 +21,7 @@ returns-in_ok-next-in-Stop g c =
 pub returns-in_ok-next-in-Again : goal.returns-in_ok-next-in-Again
 returns-in_ok-next-in-Again g c =
     repeated_when (record { names = g.V.View.names c.args.view.now; view = g.V.View.seen c.args.view.now }) (g.C.Code.meaning c.args.code.now) (g.C.Code.tables c.args.code.now) c.args.here.now c.repeated.new.here c.in-Some.tree.now (standing c.args.machine.now) c.args.next (standing c.repeated.new.machine) c.in_ok-next-in-Again.next c.in-Again.is c.in-Some.ensures c.in_ok-next-in-Again.ensures
+
+pub returns-in_ok-next-in_default-next : goal.returns-in_ok-next-in_default-next
+returns-in_ok-next-in_default-next g c =
+    within_at (record { names = g.V.View.names c.args.view.now; view = g.V.View.seen c.args.view.now }) (g.C.Code.meaning c.args.code.now) (g.C.Code.tables c.args.code.now) c.args.here.now c.in-Some.tree.now (standing c.args.machine.now) c.args.next (standing c.moved_within.new.machine) c.in_ok-next-in_default-next.next c.in-Some.ensures c.in_ok-next-in_default-next.ensures

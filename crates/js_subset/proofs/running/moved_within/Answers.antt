@@ -3,7 +3,7 @@ use Rattle.js_locals.specs.Laid.{laid}
 use Rattle.js_frames.specs.Meant.{World}
 use Rattle.js_frames.specs.Standing.{standing}
 use Rattle.js_frames.specs.declared.frames.Next.TheVariants as next
-use Rattle.js_frames.proofs.EndLemmas.{of_next, begun_at, steps_at, signs_at, args_at, runs_at, rests_at, vars_at, targets_at, spot_at}
+use Rattle.js_progress.proofs.MovingLemmas.{of_next, begun_at, steps_at, signs_at, args_at, runs_at, rests_at, vars_at, targets_at, spot_at}
 use Rattle.js_subset.proofs.running.moved_within.Goals as goal
 
 pub returns-in-Begin : goal.returns-in-Begin

@@ -1,4 +1,4 @@
-use Rattle.std.proofs.Common.{ap, subst, sym}
+use Rattle.std.proofs.Common.{subst}
 use Rattle.evaluation.specs.Hearing.{heard, Answers}
 use Rattle.tree_model.specs.Rules.{counted, rows_asked}
 use Rattle.tree_settling.proofs.AnswerLemmas.{answers_behind}

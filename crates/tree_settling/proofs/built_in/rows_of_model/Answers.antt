@@ -1,6 +1,6 @@
-use Rattle.std.proofs.Common.{◌≡◌, ◌∙◌, sym, ap, subst, Some, None}
+use Rattle.std.proofs.Common.{◌≡◌, ◌∙◌, sym, subst, Some, None}
 use Rattle.evaluation.specs.Hearing.{heard, Answers}
-use Rattle.tree_model.specs.Rules.{counted, model_in, by_model}
+use Rattle.tree_model.specs.Rules.{counted, model_in}
 use Rattle.tree_settling.proofs.built_in.rows_of_model.Goals as goal
 
 pub returns-in-Some : goal.returns-in-Some

@@ -1,4 +1,3 @@
-use Rattle.evaluation.specs.Hearing.{heard, Answers}
 use Rattle.tree_settling.proofs.evaluate.asked.Goals as goal
 
 pub returns-in-Visible-clause-answers : goal.returns-in-Visible-clause-answers

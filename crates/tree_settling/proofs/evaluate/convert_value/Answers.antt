@@ -1,6 +1,4 @@
-use Rattle.std.proofs.Common.{sym, ◌∙◌, ◌≡◌, Ok, Err}
-use Rattle.qml_types.specs.Conversion.{IsConverted}
-use Rattle.tree_settling.specs.Tables.{types_named}
+use Rattle.std.proofs.Common.{sym}
 use Rattle.tree_settling.proofs.ConvertLemmas.{converts_ok, converts_bad}
 use Rattle.tree_settling.proofs.evaluate.convert_value.Goals as goal
 

@@ -1,5 +1,5 @@
-use Rattle.std.proofs.Common.{◌≡◌, ◌∙◌, ap, sym, refl, ℕ, length, arith, List}
-use Rattle.tree_model.specs.Settling.{fresh, settled, taking_all}
+use Rattle.std.proofs.Common.{◌≡◌, ◌∙◌, refl, length, arith}
+use Rattle.tree_model.specs.Settling.{fresh, taking_all}
 use Rattle.tree_settling.specs.Tables.{world_of, tree_of, read_in, taken}
 use Rattle.tree_settling.proofs.TakingLemmas.{taken_is, none_past, lowest_is}
 use Rattle.tree_settling.proofs.settling.settle_by.Goals as goal

@@ -1,6 +1,7 @@
-use Rattle.std.proofs.Common.{◌≡◌, ◌∙◌, sym, refl, rules, false, length, arith}
-use Rattle.tree_settling.specs.Tables.{world_of, StillLoops}
+use Rattle.std.proofs.Common.{◌≡◌, ◌∙◌, refl, rules, true, false, ◌<◌, length, arith}
+use Rattle.tree_settling.specs.Tables.{loops_in, world_of, StillLoops}
 use Rattle.tree_settling.proofs.SweepLemmas.{begun_right, at_rest, all_visited}
+use Rattle.tree_settling.proofs.StepLemmas.{sum_falls}
 use Rattle.tree_settling.proofs.sweeps.refresh.Goals as goal
 
 pub sweeping-init : goal.sweeping-init
@@ -9,6 +10,7 @@ sweeping-init g c =
     record {
       same = refl;
       steps = omega arith;
+      few = omega arith;
       right = λ objects e. begun_right world objects c.args.cells.now c.args.table.now e;
     }
 
@@ -25,6 +27,13 @@ sweeping-preserved g c =
     record {
       same = c.in_ok-sweep.ensures.same ∙ c.sweeping.invariant.same;
       steps = (let before = c.sweeping.invariant.steps in let more = c.in_ok-sweep.ensures.steps in omega arith);
+      few =
+          (let yes : c.in_ok-sweep.field-0 ≡ true = search rules in
+          let falls : loops_in c.sweep.new.table < loops_in c.sweeping.table = rw yes at c.in_ok-sweep.ensures.sweeps in
+          let sum = sum_falls (loops_in c.sweep.new.table) (loops_in c.sweeping.table) falls in
+          let before = c.sweeping.invariant.few in
+          let more = c.in_ok-sweep.ensures.few in
+          omega (arith, sum, before, more));
       right = λ objects e. right objects (c.sweeping.invariant.right objects e);
     }
 

@@ -1,4 +1,4 @@
-use Rattle.std.proofs.Common.{◌≡◌, ◌∙◌, sym, ap, refl, Some, slice_get, length, rules, arith, ◌<◌}
+use Rattle.std.proofs.Common.{◌≡◌, ◌∙◌, ap, refl, Some, length, rules, arith, ◌<◌}
 use Rattle.std.proofs.lemmas.Option.{slice_get_read}
 use Rattle.evaluation.specs.declared.came.Came.TheVariants as came
 use Rattle.tree_settling.proofs.SweepLemmas.{not_loop}

@@ -1,4 +1,4 @@
-use Rattle.std.proofs.Common.{◌≡◌, ◌++◌, List, drop}
+use Rattle.std.proofs.Common.{◌++◌, List, drop}
 use Rattle.qml_base.specs.declared.numbers.CellNo.{CellNo}
 use Rattle.tree_model.specs.Telling.{Changes}
 use Rattle.tree_settling.specs.Tables.{taken}

@@ -1,4 +1,4 @@
-use Rattle.std.proofs.Common.{◌<◌, ◌∙◌, ap, refl, sym, length, arith, get_or, None, ◌≡◌}
+use Rattle.std.proofs.Common.{◌<◌, ◌∙◌, ap, refl, sym, length, arith, get_or, ◌≡◌}
 use Rattle.tree_settling.specs.Tables.{spare_needed}
 use Rattle.tree_settling.proofs.TakingLemmas.{ready_later, spare_first, spares_long}
 use Rattle.tree_settling.proofs.taking.take_all.Goals as goal

@@ -1,13 +1,13 @@
-use Rattle.std.proofs.Common.{◌<◌, sym, subst, length}
-use Rattle.tree_model.specs.Settling.{place_of}
+use Rattle.std.proofs.Common.{sym, subst}
 use Rattle.live_tree.specs.Live.{HasCell}
-use Rattle.live_tree.proofs.LiveLemmas.{knows_all, replaced_below}
+use Rattle.live_tree.proofs.LiveLemmas.{knows_all, caught_below, caught_inside, replaced_below}
 use Rattle.live_tree.proofs.tree.LiveTree.put.Goals as goal
 
 pub invariant_of-self : goal.invariant_of-self
 invariant_of-self c =
-    let inside : place_of c.self.inside.store c.args.c < length c.self.inside.store = subst (λ t. HasCell t.tree c.args.c) (sym c.self.view_is) c.requires in
-    replaced_below c.self.inside.store c.put_content.new.self c.args.c c.args.content _ inside c.put_content.ensures c.self.invariant
+    let inside = caught_inside c.self.inside.stale c.self.inside.objects.objects c.self.inside.store c.catch_up.new.store c.args.c c.catch_up.ensures.cells (subst (λ t. HasCell t.tree c.args.c) (sym c.self.view_is) c.requires) in
+    let below = caught_below c.self.inside.stale c.self.inside.objects.objects c.self.inside.store c.catch_up.new.store _ c.catch_up.ensures.cells c.self.invariant in
+    replaced_below c.catch_up.new.store c.put_content.new.self c.args.c (c.args.content) _ inside c.put_content.ensures below
 
 pub returns-clause-knows : goal.returns-clause-knows
 returns-clause-knows c = λ asks h. knows_all asks _

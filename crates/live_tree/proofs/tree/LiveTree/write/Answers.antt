@@ -1,14 +1,20 @@
-use Rattle.std.proofs.Common.{◌<◌, sym, subst, length}
-use Rattle.tree_model.specs.Settling.{place_of}
+use Rattle.std.proofs.Common.{◌+◌, sym, subst}
 use Rattle.live_tree.specs.Live.{HasCell}
-use Rattle.live_tree.proofs.LiveLemmas.{knows_all, replaced_below}
+use Rattle.live_tree.proofs.LiveLemmas.{knows_all, caught_below, caught_inside, replaced_below}
 use Rattle.tree_model.specs.declared.cells.Content.TheVariants.{Plain}
 use Rattle.live_tree.proofs.tree.LiveTree.write.Goals as goal
 
 pub invariant_of-self : goal.invariant_of-self
 invariant_of-self c =
-    let inside : place_of c.self.inside.store c.args.c < length c.self.inside.store = subst (λ t. HasCell t.tree c.args.c) (sym c.self.view_is) c.requires in
-    replaced_below c.self.inside.store c.assign.new.self c.args.c (Plain c.in-Ok-Value.w) _ inside c.assign.ensures.new c.self.invariant
+    let inside = caught_inside c.self.inside.stale c.self.inside.objects.objects c.self.inside.store c.catch_up.new.store c.args.c c.catch_up.ensures.cells (subst (λ t. HasCell t.tree c.args.c) (sym c.self.view_is) c.requires) in
+    let below = caught_below c.self.inside.stale c.self.inside.objects.objects c.self.inside.store c.catch_up.new.store _ c.catch_up.ensures.cells c.self.invariant in
+    replaced_below c.catch_up.new.store c.assign.new.self c.args.c (Plain c.in-Ok-Value.w) _ inside c.assign.ensures.new below
 
 pub returns-in-Ok-Value-clause-knows : goal.returns-in-Ok-Value-clause-knows
 returns-in-Ok-Value-clause-knows c = λ asks h. knows_all asks _
+
+pub invariant_of-self-in-Ok : goal.invariant_of-self-in-Ok
+invariant_of-self-in-Ok c = caught_below c.self.inside.stale c.self.inside.objects.objects c.self.inside.store c.catch_up.new.store (c.self.inside.objects.given + 1) c.catch_up.ensures.cells c.self.invariant
+
+pub invariant_of-self-in-Err : goal.invariant_of-self-in-Err
+invariant_of-self-in-Err c = caught_below c.self.inside.stale c.self.inside.objects.objects c.self.inside.store c.catch_up.new.store (c.self.inside.objects.given + 1) c.catch_up.ensures.cells c.self.invariant

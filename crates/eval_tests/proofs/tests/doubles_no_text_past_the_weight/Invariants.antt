@@ -1,4 +1,0 @@
-use Rattle.eval_tests.proofs.tests.doubles_no_text_past_the_weight.Given as goal
-
-abbrev pub ghosts-long_text : goal.ghosts-long_text
-ghosts-long_text g a = record { name = a.blank.name; parts = a.blank.parts }

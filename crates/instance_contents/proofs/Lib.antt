@@ -1,0 +1,9 @@
+mod ListLemmas
+mod TypeLemmas
+mod PlaceLemmas
+mod TableLemmas
+mod SourceLemmas
+mod StateLemmas
+mod LookLemmas
+mod CellLemmas
+mod ObjectLemmas

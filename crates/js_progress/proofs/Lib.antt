@@ -1,0 +1,4 @@
+pub mod WorkLemmas
+pub mod StepFalls
+pub mod StatementFalls
+pub mod MovingLemmas

@@ -1,0 +1,4 @@
+mod LoopLemmas
+mod UnitLemmas
+mod CycleLemmas
+mod PassLemmas

@@ -1,0 +1,2 @@
+pub mod UsesOfUnits
+pub mod Passed

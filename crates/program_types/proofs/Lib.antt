@@ -1,0 +1,3 @@
+mod NumberLemmas
+pub mod SearchLemmas
+pub mod ProgramLemmas

@@ -1,0 +1,24 @@
+use Rattle.std.proofs.Common.{◌≤◌, ◌∙◌, sym, refl, length, arith}
+use Rattle.std.proofs.lemmas.Option.{slice_get_read, slice_get_past}
+use Rattle.qml_scope.proofs.FindingLemmas.{root_held, none_left, never_absent, all_done, no_root, root_here, root_next}
+use Rattle.qml_scope.proofs.finding.root_by_seats.Goals as goal
+
+pub loop-k-init : goal.loop-k-init
+loop-k-init c = root_held c.args.shapes.now c.args.unit c.args.root
+
+pub returns-in_default : goal.returns-in_default
+returns-in_default c = no_root c.args.shapes.now c.args.unit c.args.root c.loop-k.k c.loop-k.invariant (none_left c.args.shapes.now c.args.root c.loop-k.k (sym (c.in_default.ensures ∙ c.requires c.args.root c.loop-k.k)))
+
+pub returns-in_default-get : goal.returns-in_default-get
+returns-in_default-get c = never_absent c.args.shapes.now c.args.root c.loop-k.k c.in-Some.at (sym (c.in-Some.ensures ∙ c.requires c.args.root c.loop-k.k)) (slice_get_past c.args.shapes.now c.in-Some.at.0 c.in_default-get.ensures.lookup.3)
+
+pub returns-then-has_root : goal.returns-then-has_root
+returns-then-has_root c = root_here c.args.shapes.now c.args.unit c.args.root c.loop-k.k c.loop-k.invariant c.in-Some.at c.in-Some-get.shape.now (sym (c.in-Some.ensures ∙ c.requires c.args.root c.loop-k.k)) (slice_get_read c.args.shapes.now (length c.args.shapes.now) c.in-Some.at.0 c.in-Some-get.shape.now refl c.in-Some-get.ensures.lookup.3.0 c.in-Some-get.ensures.lookup.1) (sym c.has_root.ensures ∙ c.if-has_root.true)
+
+pub loop-k-preserved : goal.loop-k-preserved
+loop-k-preserved c = root_next c.args.shapes.now c.args.unit c.args.root c.loop-k.k c.loop-k.invariant c.in-Some.at c.in-Some-get.shape.now (sym (c.in-Some.ensures ∙ c.requires c.args.root c.loop-k.k)) (slice_get_read c.args.shapes.now (length c.args.shapes.now) c.in-Some.at.0 c.in-Some-get.shape.now refl c.in-Some-get.ensures.lookup.3.0 c.in-Some-get.ensures.lookup.1) (sym c.has_root.ensures ∙ c.if-has_root.false)
+
+pub returns : goal.returns
+returns c =
+    let past : length c.args.shapes.now ≤ c.loop-k.k = omega arith in
+    no_root c.args.shapes.now c.args.unit c.args.root c.loop-k.k c.loop-k.invariant (all_done c.args.shapes.now c.args.root c.loop-k.k past)

@@ -1,0 +1,3 @@
+mod ReachLemmas
+mod RankLemmas
+pub mod ProgramLemmas
