@@ -1,11 +1,10 @@
 -- What the members of a document give, in the order of writing and object after object.
-use Rattle.std.proofs.Common.{◌≡◌, ◌∙◌, ap, sym, refl, ℕ, zero, suc, ◌+◌, ◌<◌, arith, Bool, true, false, nat_eq, if◌then◌else◌, List, [], ◌∷◌, ◌++◌, flat_map, Option}
+use Rattle.std.proofs.Common.{◌≡◌, ◌∙◌, ap, sym, refl, ℕ, zero, suc, ◌+◌, ◌<◌, arith, Bool, true, false, nat_eq, if◌then◌else◌, List, [], ◌∷◌, ◌++◌, flat_map}
 use Rattle.std.specs.Prelude.{slice_get}
 use Rattle.std.specs.Option.{unwrap_or}
 use Rattle.std.proofs.lemmas.Bool.Decides.{nat_tests}
 use Rattle.std.proofs.lemmas.List.{append-nil}
 use Rattle.std.proofs.lemmas.Grind.{flat_map-append}
-use Rattle.program_names.specs.declared.fault.Fault.{Fault}
 use Rattle.program_names.specs.Written.{WrittenObject, WrittenMember, Row, row}
 use Rattle.program_names.specs.Loaded.{Program, unit_at, no_object}
 use Rattle.document_rows.specs.WrittenObjects.{members_of_object}

@@ -1,5 +1,5 @@
 -- Names that an object may use once, in the order of writing.
-use Rattle.std.proofs.Common.{◌≡◌, ◌∙◌, ap, sym, refl, ℕ, zero, suc, ◌+◌, arith, Bool, true, false, ◌&&◌, ◌||◌, nat_eq, if◌then◌else◌, List, [], ◌∷◌, ◌++◌, map, flat_map, Option}
+use Rattle.std.proofs.Common.{◌≡◌, ◌∙◌, ap, sym, refl, ℕ, suc, ◌+◌, arith, Bool, true, false, ◌&&◌, ◌||◌, if◌then◌else◌, List, [], ◌∷◌, ◌++◌, map, flat_map}
 use Rattle.std.specs.Prelude.{slice_get}
 use Rattle.std.specs.Option.{unwrap_or}
 use Rattle.std.specs.List.{list_any}
@@ -21,7 +21,7 @@ use Rattle.load_passes.specs.declared.repeated.NameRow.{NameRow}
 use Rattle.load_passes.specs.Rows.{same_name, repeated, owner_row, rows_of_objects, id_word, second_id_rows, role_name, roles_in, role_rows as all_role_rows, declared_row as row_of_named, declared_rows_from, declared_rows as all_declared_rows}
 use Rattle.written_order.specs.InOrder.{HasMembers, ToldAlike, names_written, id_rows, role_rows, names_declared, declared_row, declared_rows}
 use Rattle.written_order.proofs.KeyLemmas.{told, Apart}
-use Rattle.written_order.proofs.MemberLemmas.{AllOwned, Owned, by_object, by_rows, in_both_orders}
+use Rattle.written_order.proofs.MemberLemmas.{AllOwned, Owned, by_object, in_both_orders}
 
 abbrev owner_of : NameRow → ℕ
 owner_of r = r.owner

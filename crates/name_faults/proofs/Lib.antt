@@ -1,0 +1,4 @@
+pub mod RowLemmas
+mod SayLemmas
+mod TakenLemmas
+pub mod PassLemmas

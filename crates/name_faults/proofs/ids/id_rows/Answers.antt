@@ -1,0 +1,9 @@
+use Rattle.std.proofs.Common.{◌∙◌, ap, ◌++◌}
+use Rattle.name_faults.specs.Names.{id_of}
+use Rattle.name_faults.proofs.RowLemmas.{go_on}
+use Rattle.name_faults.proofs.ids.id_rows.Goals as goal
+
+pub rows-preserved : goal.rows-preserved
+rows-preserved c =
+    go_on id_of c.args.inside.now c.args.rows.now c.rows.number _ c.is_inside.result c.rows.found.items c.push_id.new.found.items _ c.rows-test.true c.is_inside.ensures
+    (c.in_ok-push_id.ensures ∙ ap (λ r. c.rows.found.items ++ id_of c.is_inside.result r) c.index-rows-number.is) c.rows.invariant
