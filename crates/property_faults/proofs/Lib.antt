@@ -1,3 +1,4 @@
 pub mod RowLemmas
 mod PlaceLemmas
 pub mod UnknownLemmas
+pub mod ReadOnlyLemmas

@@ -1,3 +1,4 @@
 pub mod Given
 pub mod Places
 pub mod Unknown
+pub mod ReadOnly

@@ -89,7 +89,7 @@ fn takes_child(given: GivenFor) -> bool
 }
 
 /// A place, where it is told.
-fn place_if(told: bool, at: Place) -> Option<Place>
+pub(crate) fn place_if(told: bool, at: Place) -> Option<Place>
     ensures { result ≡ s.place_if told at }
 {
     if told { Some(at) } else { None }
@@ -173,7 +173,7 @@ fn tell_row(
 }
 
 /// Whether the row of a number stands in a group.
-fn is_inside(inside: &[bool], number: usize) -> bool
+pub(crate) fn is_inside(inside: &[bool], number: usize) -> bool
     ensures { result ≡ unwrap_or (slice_get inside.now number) false }
 {
     match inside.get(number) {
@@ -183,7 +183,7 @@ fn is_inside(inside: &[bool], number: usize) -> bool
 }
 
 /// What the member of a row is given for.
-fn given_at(given: &[GivenFor], number: usize) -> GivenFor
+pub(crate) fn given_at(given: &[GivenFor], number: usize) -> GivenFor
     ensures { result ≡ unwrap_or (slice_get given.now number) Nothing }
 {
     match given.get(number) {
@@ -220,7 +220,7 @@ fn tell_rows(
 }
 
 /// The table of the document of a number.
-fn table_at(documents: &[DocumentTable], document: usize) -> Option<&DocumentTable>
+pub(crate) fn table_at(documents: &[DocumentTable], document: usize) -> Option<&DocumentTable>
     ensures { option_copied result ≡ slice_get documents.now document }
 {
     documents.get(document)
