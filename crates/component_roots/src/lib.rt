@@ -2,6 +2,8 @@
 //! rounds from the root of a document inwards.
 #![tactic(auto)]
 
+mod deciding;
 mod laws;
 
-pub use laws::{all_are_known, roots_that_are_decided};
+pub use deciding::decided_roots;
+pub use laws::{all_are_known, found_is_decided, owners_are_lower, roots_that_are_decided};
