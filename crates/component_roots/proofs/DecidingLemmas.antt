@@ -326,7 +326,8 @@ module _ (p : Program) (us : List UnitNames) (stands : Stands p us) (d o : ℕ) 
 
   member_decides : (roots : Roots) (w : ℕ) (c : Bool) (g : Option ℕ) (x : Member) → is_there us d w ≡ true → by_member us d o w g x ≡ Some c → SaysRole (object_at p d o).role w g x
       → root_as p roots d o (object_at p d o).role ≡ Some c
-  member_decides roots w c g (m.Property q a k n at v) t i r = ap (root_as p roots d o) r ∙ name_decides roots w n c t i
+  member_decides roots w c g (m.Property q a k n at (Some v)) t i r = ap (root_as p roots d o) r ∙ name_decides roots w n c t i
+  member_decides roots w c g (m.Property q a k n at None) t i r = none_some c i
   member_decides roots w c None (m.Given path value) t i r = path_decides roots w c None path.first path.rest.items t i (λ e. r)
   member_decides roots w c (Some k) (m.Given path value) t i r = path_decides roots w c (Some k) path.first path.rest.items t i (λ e. none_some k (sym e))
   member_decides roots w c g (m.Child x) t i r = ap (root_as p roots d o) r ∙ default_decides roots w c t i
@@ -346,7 +347,7 @@ module _ (p : Program) (us : List UnitNames) (stands : Stands p us) (d o : ℕ) 
 
 -- ---- all objects
 
-decision_there : (us : List UnitNames) (d n : ℕ) (rows : List UnitRow) (objects : List ObjectRow) (found : List Bool) → map Some found ≡ decisions us d rows n objects → (k : ℕ) (x : ObjectRow)
+pub decision_there : (us : List UnitNames) (d n : ℕ) (rows : List UnitRow) (objects : List ObjectRow) (found : List Bool) → map Some found ≡ decisions us d rows n objects → (k : ℕ) (x : ObjectRow)
     → slice_get objects k ≡ Some x → decision us d (n + k) rows x.row ≡ Some (unwrap_or (slice_get found k) false)
 decision_there us d n rows [] found e k x i = none_some x i
 decision_there us d n rows (y ∷ objects) [] e k x i = absurd (none_longer (ap length e))

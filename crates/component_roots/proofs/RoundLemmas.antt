@@ -165,6 +165,17 @@ at_last p d o h =
     ap (λ row. root_in row o) (settled_row (last_round p) d) ∙
     settled_there (row_in (last_round p) d) o (subst (λ n. o < n) (sym (rounds_fit (rounds_enough p) p (nothing_known p) d (first_fits p d))) h)
 
+nowhere : (row : List IsRoot) (o : ℕ) → length row ≤ o → root_in row o ≡ None
+nowhere [] o h = refl
+nowhere (r ∷ row) zero h = absurd (omega arith)
+nowhere (r ∷ row) (suc o) h = let less : length row ≤ o = omega arith in nowhere row o less
+
+pub unknown_outside : (p : Program) (d o : ℕ) → length (unit_at p d).objects ≤ o → is_root_at (roots_of p) d o ≡ None
+unknown_outside p d o h =
+    ap (λ row. root_in row o) (settled_row (last_round p) d) ∙
+    nowhere (map settled (row_in (last_round p) d)) o
+    (subst (λ n. n ≤ o) (sym (map_long settled (row_in (last_round p) d) ∙ rounds_fit (rounds_enough p) p (nothing_known p) d (first_fits p d))) h)
+
 is_settled : (x : IsRoot) → is_some (settled x) ≡ true
 is_settled None = refl
 is_settled (Some b) = refl

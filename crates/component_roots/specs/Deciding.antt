@@ -1,6 +1,6 @@
 -- What an object decides by what it is written as, by the tables of a program; nothing where it may depend on where aliases end.
 use Rattle.std.specs.Prelude.{◌≡◌, ◌<◌, ℕ, suc, ◌+◌, nat_eq, Bool, true, false, ◌&&◌, not, if◌then◌else◌, List, [], ◌∷◌, map, length, slice_get, Option, Some, None}
-use Rattle.std.specs.Option.{option_map, option_and_then, unwrap_or}
+use Rattle.std.specs.Option.{option_map, option_and_then, unwrap_or, is_some}
 use Rattle.std.specs.declared.alloc.Global.{Global}
 use Rattle.std.specs.declared.vec.Vec.{Vec}
 use Rattle.qml_syntax.specs.Tree.{Units}
@@ -57,6 +57,9 @@ abbrev pub by_name : List UnitNames → ℕ → ℕ → ℕ → Units → Option
 by_name us d o w word =
     if begins_on word then None else by_meaning us d o (found_at (length us + 1) us d w word)
 
+abbrev pub by_value : List UnitNames → ℕ → ℕ → ℕ → Units → Bool → Option Bool
+by_value us d o w word has = if has then by_name us d o w word else None
+
 abbrev pub name_of_place : TypeNo → ℕ → Units
 name_of_place t n = unwrap_or (option_map (λ (cell : TypeCell). cell.name) (slice_get (cells_of t) n)) []
 
@@ -76,7 +79,7 @@ by_path us d o w _ word _ = None
 
 -- in or as the member of a row
 abbrev pub by_member : List UnitNames → ℕ → ℕ → ℕ → Option ℕ → Member → Option Bool
-by_member us d o w group (m.Property q a k n at v) = by_name us d o w n
+by_member us d o w group (m.Property q a k n at v) = by_value us d o w n (is_some v)
 by_member us d o w group (m.Given path value) = by_path us d o w group path.first path.rest.items
 by_member us d o w group (m.Child c) = by_default us d o w (default_at (length us + 1) us d w)
 by_member us d o w group _ = None
@@ -100,7 +103,7 @@ first_name path = path.first ∷ path.rest.items
 
 -- what an object is written as that is in or of the member of a row, outside groups
 abbrev pub SaysRole : WrittenAs → ℕ → Option ℕ → Member → Type 0
-SaysRole role w group (m.Property q a k n at v) = role ≡ as_value w (n ∷ [])
+SaysRole role w group (m.Property q a k n at (Some v)) = role ≡ as_value w (n ∷ [])
 SaysRole role w None (m.Given path value) = role ≡ as_value w (first_name path)
 SaysRole role w group (m.Child c) = role ≡ as_child w
 SaysRole role w group _ = Unit {0}

@@ -78,8 +78,8 @@ fn by_row(
             kind: _,
             name,
             name_at: _,
-            value: _,
-        } => by_name(names, document, object, owner, name),
+            value,
+        } => by_value(names, document, object, owner, name, value.is_some()),
         Member::Given { path, value: _ } => by_path(
             names,
             document,
@@ -91,6 +91,23 @@ fn by_row(
         Member::Child { object: _ } => by_default(alloc, names, document, object, owner),
         _ => Ok(None),
     }
+}
+
+/// What an object decides that is in the value of a property, if this has one.
+fn by_value(
+    names: &Names,
+    document: usize,
+    object: usize,
+    owner: usize,
+    name: &Text,
+    has_value: bool,
+) -> Result<Option<bool>, NoMemory>
+    ensures { IfOk result (λ b. b ≡ s.by_value names.now.units.items document object owner name.now has_value) }
+{
+    if !has_value {
+        return Ok(None);
+    }
+    by_name(names, document, object, owner, name)
 }
 
 fn by_path(

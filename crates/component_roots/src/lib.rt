@@ -6,4 +6,7 @@ mod deciding;
 mod laws;
 
 pub use deciding::decided_roots;
-pub use laws::{all_are_known, found_is_decided, owners_are_lower, roots_that_are_decided};
+pub use laws::{
+    all_are_known, found_is_decided, owners_are_lower, roots_that_are_decided,
+    rows_of_a_tree_say_roles,
+};

@@ -1,9 +1,10 @@
 //! Aliases of one document: the root has the id `r`, and object 1, an Item in it, the id `i`.
 
 use alias_faults::{target_seen, tell_bad_aliases};
-use alias_tables::component_ids;
+use alias_tables::{component_ids, object_of_id};
+use document_components::document_ids;
 use document_members::{Member, NamePath};
-use document_rows::MemberRow;
+use document_rows::{MemberRow, ObjectRow};
 use load_passes::Best;
 use path_ends::{
     PathEnd, SeenObject, UnitAliases, UnitEnds, UnitIds, alias_ends, end_of_path, unit_aliases,
@@ -200,5 +201,40 @@ fn a_target_is_an_id_that_no_name_hides(rt: HostRuntime) -> Result<(), Fail> {
     }
     assert!(rt; found == Some(1));
     assert!(rt; hidden == None);
+    Ok(())
+}
+
+#[test]
+fn what_a_component_holds_has_ids_of_its_own(rt: HostRuntime) -> Result<(), Fail> {
+    let alloc = rt.alloc();
+    let mut rows = Vec::new(alloc);
+    rows.push(id(alloc, 0, b"r")?)?;
+    rows.push(row(0, Member::Child { object: 0 }))?;
+    rows.push(id(alloc, 1, b"i")?)?;
+    let component = TypeRef::Builtin(TypeNo::Component);
+    let item = TypeRef::Builtin(TypeNo::Item);
+    let mut units = Vec::new(alloc);
+    units.push(unit_names(alloc, &[component, item], &rows)?)?;
+    let names = Names {
+        built_in: BuiltInNames::new(alloc)?,
+        units,
+    };
+    let objects = [
+        ObjectRow { node: 0, row: None },
+        ObjectRow {
+            node: 0,
+            row: Some(1),
+        },
+    ];
+    let made = document_ids(alloc, &names, 0, &objects, &rows)?;
+    let i = Text::from_utf8(alloc, b"i")?;
+    let mut inner = None;
+    let mut outer = Some(0);
+    if let Some(ids) = made {
+        inner = object_of_id(&ids.ids, 1, &i);
+        outer = object_of_id(&ids.ids, 0, &i);
+    }
+    assert!(rt; inner == Some(1));
+    assert!(rt; outer == None);
     Ok(())
 }
