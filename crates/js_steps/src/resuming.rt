@@ -62,7 +62,7 @@ fn own_operator(tree: &Tree, at: usize) -> Result<Operator, NoMemory>
 
 /// Of the part at a place in a chain: the operator before it, and where its operand stands.
 #[tactic(auto, using(js_locals::proofs::LaidLemmas::link_operand, js_locals::proofs::LaidLemmas::own_operand))]
-fn operand(tree: &Tree, at: usize, part: usize) -> Result<(Operator, usize), NoMemory>
+pub fn operand(tree: &Tree, at: usize, part: usize) -> Result<(Operator, usize), NoMemory>
     ensures { IfOk result (λ o. IsOperand (laid tree.now) at part o.0 o.1) }
 {
     let Some(node) = node_at(tree, part) else {
@@ -83,7 +83,7 @@ fn operand(tree: &Tree, at: usize, part: usize) -> Result<(Operator, usize), NoM
 }
 
 /// Goes on with an operator of a chain behind a value.
-fn link_on(
+pub fn link_on(
     machine: &mut Machine,
     how: Option<Rounding>,
     at: usize,
@@ -136,7 +136,7 @@ fn rounding_here(tree: &Tree, how: Option<Rounding>, at: usize, part: usize) -> 
 }
 
 /// An operator between two values, rounded or not.
-fn operated(
+pub fn operated(
     alloc: Global,
     how: Option<Rounding>,
     op: Operator,
@@ -152,7 +152,7 @@ fn operated(
 }
 
 /// Goes on with an operator's right operand.
-fn right_on(
+pub fn right_on(
     machine: &mut Machine,
     alloc: Global,
     tree: &Tree,
@@ -198,7 +198,7 @@ fn other_choice(machine: &mut Machine, tree: &Tree, at: usize) -> Result<Next, N
 }
 
 /// Goes on behind a condition.
-fn choose_on(
+pub fn choose_on(
     machine: &mut Machine,
     tree: &Tree,
     choice: usize,
