@@ -1,8 +1,8 @@
 //! That a plan is made where there is memory.
 
-use crate::numbers::{NumbersFault, plan_numbers};
+use crate::bodies::empty_body;
+use instancing::{NumbersFault, plan_numbers};
 use qml_base::UnitNo;
-use qml_syntax::{Node, Nodes, Tree};
 use qml_text::Text;
 use qml_types::{TypeNo, TypeRef};
 use std::alloc::Global;
@@ -27,14 +27,6 @@ fn object(alloc: Global, of_type: TypeRef, owner: Option<u32>) -> ObjectRow {
     }
 }
 
-/// The tree of a body without statements.
-fn tree(alloc: Global) -> Result<Tree, Fail> {
-    let mut nodes = Nodes::new(alloc);
-    nodes.push(Node::Mark)?;
-    nodes.push(Node::Body)?;
-    Ok(Tree::new(alloc, nodes)?)
-}
-
 /// A document whose root is of a type, and owns one more object.
 fn document(alloc: Global, of_type: TypeRef) -> Result<Unit, Fail> {
     let mut objects = Rows::new(alloc);
@@ -53,7 +45,7 @@ fn document(alloc: Global, of_type: TypeRef) -> Result<Unit, Fail> {
     Ok(Unit {
         objects,
         components,
-        bodies: UnitBodies::new(alloc, tree(alloc)?, Vec::new(alloc), Vec::new(alloc))?,
+        bodies: UnitBodies::new(alloc, empty_body(alloc)?, Vec::new(alloc), Vec::new(alloc))?,
         scripts: Rows::new(alloc),
         functions: Rows::new(alloc),
     })

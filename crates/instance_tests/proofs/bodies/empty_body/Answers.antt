@@ -2,7 +2,7 @@ use Rattle.std.proofs.Common.{◌∙◌, ap, sym, List, ◌∷◌}
 use Rattle.qml_syntax.specs.Tree.{whole_body, no_stmts}
 use Rattle.qml_syntax.specs.declared.node.Node.{Node}
 use Rattle.qml_syntax.specs.declared.node.Node.TheVariants.{Body, Mark}
-use Rattle.instancing.proofs.tests.tree.Goals as goal
+use Rattle.instance_tests.proofs.bodies.empty_body.Goals as goal
 
 pub new-requires : goal.new-requires
 new-requires c =
