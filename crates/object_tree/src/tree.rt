@@ -3,7 +3,7 @@ ghost use Rattle.std.specs.Prelude.{◌≡◌, ◌↔◌, ◌≢◌, ◌≤◌, 
 ghost use Rattle.tree_model.specs.declared.cells.Object.{Object};
 ghost use Rattle.tree_model.specs.Doomed.{Doomed, Stands, Begins, is_marked, marked_from};
 ghost use Rattle.tree_model.specs.Settling.{stands};
-ghost use Rattle.object_tree.specs.Trees.{found, owner_of, is_there, objects_but, MayOwn, IsFull, Adds, IsAt};
+ghost use Rattle.object_tree.specs.Trees.{found, owner_of, is_there, objects_but, MayOwn, IsFull, Adds, IsAt, AllUpTo};
 ghost use Rattle.tree_model.specs.Removing.{doomed_of, kept_of, AscendsFrom};
 
 use crate::links::{Links, Tie};
@@ -190,6 +190,11 @@ impl Tree {
         self.made.add(places, objects, Tie::Made, live as usize);
         Ok(number)
     }
+
+    /// No live object has a number above those that were given.
+    pub fn numbers_are_given(&self)
+        ensures { AllUpTo self.now.given self.now.objects }
+    {}
 
     /// Marks the object and all that is doomed with it: what a marked object owns, and what was made from one.
     pub fn condemn(&mut self, o: ObjNo)

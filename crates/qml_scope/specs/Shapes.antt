@@ -1,5 +1,5 @@
 -- The names of live objects by component, and what a name finds from one of them.
-use Rattle.std.specs.Prelude.{◌≡◌, ◌+◌, ℕ, zero, suc, Bool, true, false, ◌&&◌, ◌||◌, nat_eq, if◌then◌else◌, List, [], ◌∷◌, length, codes, Option, Some, None, is_some}
+use Rattle.std.specs.Prelude.{◌≡◌, ◌≤◌, ◌<◌, ◌+◌, ◌++◌, ℕ, zero, suc, Bool, true, false, ◌&&◌, ◌||◌, nat_eq, if◌then◌else◌, List, [], ◌∷◌, length, codes, Option, Some, None, is_some}
 use Rattle.std.specs.Str.{bytes_eq}
 use Rattle.std.specs.declared.alloc.Global.{Global}
 use Rattle.std.specs.declared.vec.Vec.{Vec}
@@ -81,6 +81,15 @@ told_anywhere (s ∷ ss) o name = first_of (told_in s o name) (told_anywhere ss 
 abbrev pub types_among : List (ObjNo × List TypeRef) → ObjNo → List TypeRef
 types_among [] o = []
 types_among (e ∷ es) o = if nat_eq o.0 e.0.0 then e.1 else types_among es o
+
+-- types were told of no object above a number
+abbrev pub ToldUpTo : ℕ → List (ObjNo × List TypeRef) → Type 0
+ToldUpTo n [] = Unit {0}
+ToldUpTo n (e ∷ es) = (e.0.0 ≤ n) × ToldUpTo n es
+
+-- the types of an object above all of these go last
+abbrev pub TellsLast : ObjNo → List TypeRef → Known → Known → Type 0
+TellsLast o types old new = (n : ℕ) → ToldUpTo n old.told → n < o.0 → new.told ≡ old.told ++ (o, types) ∷ []
 
 abbrev pub is_component : List (ObjNo × List TypeRef) → ObjNo → Bool
 is_component told o = has_type (types_among told o) (Builtin no.Component)
