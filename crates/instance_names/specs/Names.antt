@@ -9,7 +9,7 @@ use Rattle.qml_types.specs.Members.{TypeSignal, own_signals, name_of, own_method
 use Rattle.qml_types.specs.declared.members.Method.{Method}
 use Rattle.qml_types.specs.declared.kind.TypeNo.{TypeNo}
 use Rattle.program_names.specs.Names.{changed}
-use Rattle.qml_scope.specs.Names.{put}
+use Rattle.name_table.specs.Named.{put}
 use Rattle.qml_scope.specs.Shapes.{Known}
 use Rattle.instance_plans.specs.Numbers.{AllRows, Plan, object_no, cell_no}
 use Rattle.instance_plans.specs.NamesMade.{hidden_cell, builtin_names, with_found}
