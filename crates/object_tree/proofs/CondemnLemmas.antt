@@ -1,5 +1,5 @@
 -- Condemning an object that stands: it is marked first, and what hangs on marked ones then.
-use Rattle.std.proofs.Common.{◌≡◌, ◌∙◌, ◌⊎◌, inl, inr, ap, sym, subst, refl, ℕ, zero, suc, ◌+◌, ◌-◌, ◌<◌, ◌≤◌, ◌↔◌, add-one, true, false, List, [], ◌∷◌, ◌++◌, length, slice_get, slice_set, slice_index, arith}
+use Rattle.std.proofs.Common.{◌≡◌, ◌∙◌, inl, ap, sym, subst, refl, ℕ, zero, suc, ◌-◌, ◌<◌, ◌≤◌, ◌↔◌, add-one, true, false, List, [], ◌∷◌, ◌++◌, length, slice_get, slice_set, slice_index, arith}
 use Rattle.std.specs.List.Sorted.{IsPermutation}
 use Rattle.std.proofs.lemmas.List.Sorted.{IsPermutation-trans, IsPermutation-sym}
 use Rattle.std.specs.declared.option.Option.TheVariants.{Some}

@@ -1,12 +1,15 @@
 -- Numbers that are put in order behind those that are.
-use Rattle.std.proofs.Common.{◌≡◌, ◌∙◌, ◌⊎◌, inl, inr, ap, sym, subst, refl, ℕ, zero, suc, ◌+◌, ◌-◌, ◌<◌, ◌≤◌, add-one, List, [], ◌∷◌, ◌++◌, length, take, drop, slice_get, arith}
-use Rattle.std.proofs.lemmas.List.{take-append-drop, length-append}
+use Rattle.std.proofs.Common.{◌≡◌, ◌∙◌, ◌⊎◌, inl, inr, ap, sym, refl, ℕ, zero, suc, ◌+◌, ◌-◌, ◌<◌, ◌≤◌, add-one, List, [], ◌∷◌, ◌++◌, Some, length, take, slice_get, arith}
+use Rattle.std.proofs.lemmas.List.{append-nil, length-append}
+use Rattle.std.proofs.Math.ListN.{drop_of_length-le}
+use borrow.Rule.Slice.PartMut.{put_mid, mid_of, post_of}
 use Rattle.std.specs.List.Sorted.{IsPermutation}
-use Rattle.std.proofs.lemmas.List.Sorted.{IsPermutation-append_right}
+use Rattle.std.proofs.lemmas.List.Sorted.{IsPermutation-put_mid}
 use Rattle.qml_base.specs.declared.numbers.ObjNo.{ObjNo}
 use Rattle.tree_model.specs.declared.cells.Object.{Object}
 use Rattle.object_tree.specs.Spreading.{Spreads, no_more, one_more}
 use Rattle.object_tree.specs.Ordering.{AscendsBefore, AscendsBehind, Ascends, KeepsBefore}
+use Rattle.object_tree.proofs.ListedLemmas.{Ascends as Follows}
 use Rattle.object_tree.proofs.StepLemmas.{low_or_high}
 
 -- what lies behind a place is moved
@@ -16,12 +19,31 @@ kept_front (suc n) [] ys k h low = absurd (omega arith)
 kept_front (suc n) (x ∷ xs) ys zero h low = refl
 kept_front (suc n) (x ∷ xs) ys (suc k) h low = kept_front n xs ys k (omega arith) (omega arith)
 
-pub moved_keeps : (n : ℕ) (old new rest : List ObjNo) → n ≤ length old → new ≡ take n old ++ rest → KeepsBefore n old new
-moved_keeps n old new rest h e k low = ap (λ (xs : List ObjNo). slice_get xs k) e ∙ kept_front n old rest k h low
+pub front_stays : (n : ℕ) (xs ys : List ObjNo) → n ≤ length xs → KeepsBefore n xs (put_mid n (length xs - n) xs ys)
+front_stays n xs ys h k low = kept_front n xs (ys ++ post_of n (length xs - n) xs) k h low
 
-pub moved_permutes : (n : ℕ) (old new rest : List ObjNo) → IsPermutation (drop n old) rest → new ≡ take n old ++ rest → IsPermutation old new
-moved_permutes n old new rest moved e =
-    rw e (subst (λ (xs : List ObjNo). IsPermutation xs (take n old ++ rest)) (take-append-drop n old) (IsPermutation-append_right (take n old) (drop n old) rest moved))
+pub rest_moves : (n : ℕ) (xs ys : List ObjNo) → n ≤ length xs → IsPermutation (mid_of n (length xs - n) xs) ys → IsPermutation xs (put_mid n (length xs - n) xs ys)
+rest_moves n xs ys h moved = IsPermutation-put_mid n (length xs - n) xs ys moved
+
+none_behind : (n k : ℕ) (xs : List ObjNo) → length xs ≤ n + k → post_of n k xs ≡ []
+none_behind zero k xs h = let few : length xs ≤ k = omega arith in drop_of_length-le xs few
+none_behind (suc n) zero [] h = refl
+none_behind (suc n) (suc k) [] h = refl
+none_behind (suc n) k (x ∷ xs) h = none_behind n k xs (omega arith)
+
+-- what was sorted behind a place ascends there
+behind_front : (n : ℕ) (xs ys : List ObjNo) → n ≤ length xs → Follows ys → (k : ℕ) (a b : ObjNo) → n ≤ k → slice_get (take n xs ++ ys) k ≡ Some a → slice_get (take n xs ++ ys) (suc k) ≡ Some b → a.0 ≤ b.0
+behind_front zero xs ys h all k a b low e f = all k a b e f
+behind_front (suc n) [] ys h all k a b low e f = absurd (omega arith)
+behind_front (suc n) (x ∷ xs) ys h all zero a b low e f = absurd (omega arith)
+behind_front (suc n) (x ∷ xs) ys h all (suc k) a b low e f = behind_front n xs ys (omega arith) all k a b (omega arith) e f
+
+pub sorted_behind : (n : ℕ) (xs ys : List ObjNo) → n ≤ length xs → Follows ys → AscendsBehind n (put_mid n (length xs - n) xs ys)
+sorted_behind n xs ys h sorted k a b low e f =
+    let end : ys ++ post_of n (length xs - n) xs ≡ ys = ap (λ (zs : List ObjNo). ys ++ zs) (none_behind n (length xs - n) xs (omega arith)) ∙ append-nil ys in
+    let whole : put_mid n (length xs - n) xs ys ≡ take n xs ++ ys = ap (λ (zs : List ObjNo). take n xs ++ zs) end in
+    behind_front n xs ys h sorted k a b low (ap (λ (zs : List ObjNo). slice_get zs k) (sym whole) ∙ e)
+    (ap (slice_get (take n xs ++ ys)) (sym (add-one k)) ∙ ap (λ (zs : List ObjNo). slice_get zs (k + 1)) (sym whole) ∙ f)
 
 -- order in front and order behind are order
 pub kept_ascends : (m n : ℕ) (old new : List ObjNo) → m ≤ n → KeepsBefore n old new → AscendsBefore n old → AscendsBefore m new

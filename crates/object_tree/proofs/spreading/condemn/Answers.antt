@@ -1,4 +1,4 @@
-use Rattle.std.proofs.Common.{◌∙◌, ap, sym, subst, refl, ◌+◌, [], ◌∷◌, length, slice_get, arith}
+use Rattle.std.proofs.Common.{◌∙◌, ap, sym, subst, refl, ◌+◌, List, [], ◌∷◌, length, slice_get, arith}
 use Rattle.std.proofs.lemmas.List.{length-append}
 use Rattle.std.proofs.lemmas.Option.{slice_get_within}
 use Rattle.object_tree.specs.declared.links.Tie.TheVariants as by_tie
@@ -7,7 +7,9 @@ use Rattle.object_tree.proofs.CondemnLemmas.{none_standing, standing, begins, be
 use Rattle.object_tree.proofs.ListedLemmas.{all_marked, all_listed}
 use Rattle.object_tree.proofs.SpreadLemmas.{spread_placed, spread_ordered, spread_linked, spread_room, spread_marked, spread_listed, all_counted, some_unmarked}
 use Rattle.object_tree.proofs.MarkLemmas.{seam}
+use Rattle.std.specs.List.Sorted.{IsPermutation}
 use Rattle.std.proofs.lemmas.List.Sorted.{length_permutation}
+use Rattle.qml_base.specs.declared.numbers.ObjNo.{ObjNo}
 use Rattle.object_tree.proofs.spreading.condemn.Goals as goal
 
 pub returns-then-not-stands_in-clause-marks : goal.returns-then-not-stands_in-clause-marks
@@ -110,8 +112,11 @@ returns-clause-listed c =
     let there = ap (slice_get c.args.objects.now) c.place.ensures ∙ s.there in
     let first = begins c.args.o c.args.objects.now c.mark_at.new.objects c.args.doomed.now.items c.mark_at.new.doomed.items c.place.result s.x there s.number s.free (c.mark_at.ensures.objects s.x there) (c.mark_at.ensures.doomed s.x there) in
     let marked = begun_mark c.args.o c.args.objects.now c.mark_at.new.objects c.args.doomed.now.items c.mark_at.new.doomed.items c.place.result s.x there s.number s.free (c.mark_at.ensures.objects s.x there) (c.mark_at.ensures.doomed s.x there) c.requires.ordered in
-    let whole = seam c.put_in_order.new.numbers c.spread.new.doomed.items c.spread.new.doomed.len (length_permutation c.spread.new.doomed.items c.put_in_order.new.numbers c.put_in_order.ensures.permutation) in
-    whole ∙ condemn_sorted c.args.o c.args.objects.now c.mark_at.new.objects c.spread.new.objects c.args.doomed.now.items c.mark_at.new.doomed.items c.spread.new.doomed.items c.requires.ordered c.requires.listed first marked (c.spread.ensures.spreads c.args.o) c.spread.ensures.whole c.put_in_order.new.numbers c.put_in_order.ensures.permutation c.put_in_order.ensures.ascends
+    let moved = subst (λ (ns : List ObjNo). IsPermutation ns c.put_in_order.new.numbers) c.as_mut_slice.ensures.value c.put_in_order.ensures.permutation in
+    let same = length_permutation c.spread.new.doomed.items c.put_in_order.new.numbers moved in
+    let long = c.spread.new.doomed.ok.0 in
+    let whole = seam c.put_in_order.new.numbers c.spread.new.doomed.items c.spread.new.doomed.len (omega arith) in
+    whole ∙ condemn_sorted c.args.o c.args.objects.now c.mark_at.new.objects c.spread.new.objects c.args.doomed.now.items c.mark_at.new.doomed.items c.spread.new.doomed.items c.requires.ordered c.requires.listed first marked (c.spread.ensures.spreads c.args.o) c.spread.ensures.whole c.put_in_order.new.numbers moved c.put_in_order.ensures.ascends
 
 pub returns-then-not-stands_in-clause-least : goal.returns-then-not-stands_in-clause-least
 returns-then-not-stands_in-clause-least c =
@@ -158,4 +163,4 @@ put_in_order-requires-clause-front c =
     λ k a b low e f.
     let was = c.args.doomed.now.ok.0 in
     let from = c.len-from.ensures in
-    condemn_front c.args.o c.args.objects.now c.mark_at.new.objects c.spread.new.objects c.args.doomed.now.items c.mark_at.new.doomed.items c.spread.new.doomed.items c.requires.ordered c.requires.listed first marked (c.spread.ensures.spreads c.args.o) c.spread.ensures.whole k a b (omega arith) e f
+    condemn_front c.args.o c.args.objects.now c.mark_at.new.objects c.spread.new.objects c.args.doomed.now.items c.mark_at.new.doomed.items c.spread.new.doomed.items c.requires.ordered c.requires.listed first marked (c.spread.ensures.spreads c.args.o) c.spread.ensures.whole k a b (omega arith) (ap (λ (ns : List ObjNo). slice_get ns k) (sym c.as_mut_slice.ensures.value) ∙ e) (ap (λ (ns : List ObjNo). slice_get ns (k + 1)) (sym c.as_mut_slice.ensures.value) ∙ f)
