@@ -1,7 +1,7 @@
 -- The names of an instance as they are known: of two alike the first counts.
 use Rattle.std.specs.Prelude.{ℕ, List, [], ◌∷◌, map}
 use Rattle.qml_syntax.specs.Tree.{Units}
-use Rattle.qml_scope.specs.Names.{put}
+use Rattle.name_table.specs.Named.{put}
 use Rattle.qml_scope.specs.declared.shape.Shape.{Shape}
 use Rattle.qml_scope.specs.declared.shape.Entry.{Entry}
 use Rattle.instance_plans.specs.NamesMade.{ObjectNames, InstanceNames}

@@ -15,8 +15,8 @@ use instance_contents::{Tables, builtin_of, documents_from, has_row};
 use instance_names::put_builtin;
 use instance_plans::PlannedInstance;
 use instancing::{object, type_at};
+use name_table::NameTable;
 use qml_base::{Found, NoMemory};
-use qml_scope::Named;
 use qml_types::TypeNo;
 use std::alloc::Global;
 
@@ -24,7 +24,7 @@ use std::alloc::Global;
 fn put_declared(
     alloc: Global,
     tables: &Tables,
-    names: &mut Named<Found>,
+    names: &mut NameTable<Found>,
     viewer: Viewer,
     o: u32,
     aliases: bool,
@@ -43,7 +43,7 @@ fn put_declared(
 fn put_document(
     alloc: Global,
     tables: &Tables,
-    names: &mut Named<Found>,
+    names: &mut NameTable<Found>,
     viewer: Viewer,
     u: u32,
     aliases: bool,
@@ -65,7 +65,7 @@ fn put_document(
 fn put_documents(
     alloc: Global,
     tables: &Tables,
-    names: &mut Named<Found>,
+    names: &mut NameTable<Found>,
     viewer: Viewer,
     documents: &[u32],
     aliases: bool,
@@ -84,7 +84,7 @@ fn put_documents(
 fn put_written(
     alloc: Global,
     tables: &Tables,
-    names: &mut Named<Found>,
+    names: &mut NameTable<Found>,
     viewer: Viewer,
     o: u32,
 ) -> Result<(), NoMemory>
@@ -106,7 +106,7 @@ fn put_written(
 fn put_names(
     alloc: Global,
     tables: &Tables,
-    names: &mut Named<Found>,
+    names: &mut NameTable<Found>,
     place: u32,
     instance: &PlannedInstance,
     at: (u32, u32),
@@ -135,11 +135,11 @@ pub fn names_of(
     instance: &PlannedInstance,
     at: (u32, u32),
     delegates: usize,
-) -> Result<Named<Found>, NoMemory>
+) -> Result<NameTable<Found>, NoMemory>
     requires { Stands tables.now }
     ensures { IfOk result (λ names. names ≡ each_put [] (pairs_seen tables.now place instance.now at delegates)) }
 {
-    let mut names = Named::new(alloc);
+    let mut names = NameTable::new(alloc);
     put_names(alloc, tables, &mut names, place, instance, at, delegates)?;
     Ok(names)
 }

@@ -12,8 +12,8 @@ ghost use Rattle.instance_shapes.specs.Told.{pairs_by, pairs_by_rows, pair_if, e
 use crate::told::Viewer;
 use instance_contents::{Tables, builtin_at, number_at};
 use instance_names::{change_signal, own_signal};
+use name_table::NameTable;
 use qml_base::{CellNo, ExprNo, Found, NoMemory, ObjNo, UnitNo};
-use qml_scope::Named;
 use qml_text::Text;
 use qml_types::TypeNo;
 use std::alloc::Global;
@@ -182,7 +182,7 @@ fn found(
 /// Puts a name with what it finds, if it finds something.
 fn put_found(
     alloc: Global,
-    names: &mut Named<Found>,
+    names: &mut NameTable<Found>,
     name: &Text,
     found: Option<Found>,
 ) -> Result<(), NoMemory>
@@ -198,7 +198,7 @@ fn put_found(
 fn put_row(
     alloc: Global,
     tables: &Tables,
-    names: &mut Named<Found>,
+    names: &mut NameTable<Found>,
     viewer: Viewer,
     row: &NameRow,
     aliases: bool,
@@ -215,7 +215,7 @@ fn put_row(
 pub fn put_rows(
     alloc: Global,
     tables: &Tables,
-    names: &mut Named<Found>,
+    names: &mut NameTable<Found>,
     viewer: Viewer,
     rows: &[NameRow],
     aliases: bool,

@@ -14,8 +14,9 @@ use crate::objects::names_of;
 use instance_contents::Tables;
 use instance_plans::PlannedInstance;
 use instancing::component;
+use name_table::NameTable;
 use qml_base::{CellNo, NoMemory, ObjNo, UnitNo};
-use qml_scope::{Entry, Members, Named, Shape};
+use qml_scope::{Entry, Members, Shape};
 use qml_text::Text;
 use qml_value::Value;
 use std::alloc::Global;
@@ -70,7 +71,7 @@ fn members(
 fn put_id(
     alloc: Global,
     tables: &Tables,
-    ids: &mut Named<ObjNo>,
+    ids: &mut NameTable<ObjNo>,
     place: u32,
     id: &(Text, u32),
 ) -> Result<(), NoMemory>
@@ -88,7 +89,7 @@ fn put_id(
 fn put_ids(
     alloc: Global,
     tables: &Tables,
-    ids: &mut Named<ObjNo>,
+    ids: &mut NameTable<ObjNo>,
     place: u32,
     written: &[(Text, u32)],
 ) -> Result<(), NoMemory>
@@ -107,11 +108,11 @@ fn ids(
     tables: &Tables,
     place: u32,
     instance: &PlannedInstance,
-) -> Result<Named<ObjNo>, NoMemory>
+) -> Result<NameTable<ObjNo>, NoMemory>
     requires { Stands tables.now }
     ensures { IfOk result (λ ids. ids ≡ each_put [] (s.ids_told tables.now place (component_at (rows_in tables.now) instance.now.unit instance.now.component).ids)) }
 {
-    let mut ids = Named::new(alloc);
+    let mut ids = NameTable::new(alloc);
     if let Some(row) = component(tables.units, instance.unit, instance.component) {
         put_ids(alloc, tables, &mut ids, place, row.ids.as_slice())?;
     }
@@ -135,7 +136,7 @@ fn shape(
     place: u32,
     instance: &PlannedInstance,
     delegates: usize,
-    names: Named<CellNo>,
+    names: NameTable<CellNo>,
 ) -> Result<Shape, NoMemory>
     requires { Stands tables.now }
     ensures { IfOk result (λ shape. shape ≡ s.shape_told tables.now place instance.now delegates names) }
@@ -153,7 +154,7 @@ fn shape(
 /// Puts delegate names, whose cells stand from a place on.
 fn put_delegates(
     alloc: Global,
-    names: &mut Named<CellNo>,
+    names: &mut NameTable<CellNo>,
     number: u32,
     from: u32,
     delegates: &[(Text, Value)],
@@ -182,11 +183,11 @@ fn delegate_names(
     u: u32,
     r: u32,
     delegates: &[(Text, Value)],
-) -> Result<Named<CellNo>, NoMemory>
+) -> Result<NameTable<CellNo>, NoMemory>
     ensures { IfOk result (λ names. names ≡ named_once (s.delegate_names tables.now u r delegates.now)) }
 {
     let from = count_of_object(alloc, tables, u, r, 0)?;
-    let mut names = Named::new(alloc);
+    let mut names = NameTable::new(alloc);
     put_delegates(alloc, &mut names, tables.first, from, delegates)?;
     Ok(names)
 }
@@ -207,7 +208,7 @@ pub fn plan_shapes(
     let mut shapes = Vec::new(alloc);
     let mut names = delegate_names(alloc, tables, u, r, delegates)?;
     'instances: for (place, instance) in tables.instances.iter().enumerate() {
-        let own = std::mem::replace(&mut names, Named::new(alloc));
+        let own = std::mem::replace(&mut names, NameTable::new(alloc));
         let shape = shape(alloc, tables, place as u32, instance, delegates.len(), own)?;
         shapes.push(shape)?;
     }

@@ -17,7 +17,8 @@ use Rattle.qml_types.specs.declared.kind.TypeRef.{TypeRef}
 use Rattle.qml_types.specs.declared.kind.TypeRef.TheVariants.{Builtin}
 use Rattle.qml_types.specs.declared.kind.TypeNo.TheVariants as no
 use Rattle.tree_model.specs.Converting.{has_type}
-use Rattle.qml_scope.specs.Names.{under, named_by}
+use Rattle.name_table.specs.Named.{under}
+use Rattle.qml_scope.specs.Names.{named_by}
 
 -- the first of two that there is
 abbrev pub first_of : {X : Type 0} → Option X → Option X → Option X
