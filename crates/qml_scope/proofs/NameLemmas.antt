@@ -1,5 +1,5 @@
 -- The first name that passes a test, as a loop over places finds it.
-use Rattle.std.proofs.Common.{◌≡◌, ◌∙◌, ap, sym, refl, ℕ, Bool, true, false, List, [], ◌∷◌, drop, Option, None, Some, zero, suc, ◌+◌, ◌<◌, ◌≤◌, add-one, slice_get, length, if◌then◌else◌, arith}
+use Rattle.std.proofs.Common.{◌≡◌, ◌∙◌, ap, sym, refl, ℕ, Bool, true, false, List, [], ◌∷◌, drop, Option, None, zero, suc, ◌+◌, ◌≤◌, add-one, slice_get, length, arith}
 use Rattle.std.proofs.lemmas.Bool.{false≢true}
 use Rattle.name_table.specs.Named.{row_name, row_found}
 use Rattle.qml_scope.specs.Names.{named_by, fits}
