@@ -98,9 +98,10 @@ impl Tree {
         self.objects.len() as u32
     }
 
-    /// How many numbers were given.
+    /// How many numbers were given. No live object has a number above it.
     pub fn given(&self) -> u32
-        ensures { result ≡ self.now.given }
+        ensures given { result ≡ self.now.given }
+        ensures above { AllUpTo self.now.given self.now.objects }
     {
         self.places.len() as u32
     }
@@ -190,11 +191,6 @@ impl Tree {
         self.made.add(places, objects, Tie::Made, live as usize);
         Ok(number)
     }
-
-    /// No live object has a number above those that were given.
-    pub fn numbers_are_given(&self)
-        ensures { AllUpTo self.now.given self.now.objects }
-    {}
 
     /// Marks the object and all that is doomed with it: what a marked object owns, and what was made from one.
     pub fn condemn(&mut self, o: ObjNo)

@@ -88,10 +88,6 @@ abbrev pub ToldUpTo : ℕ → List (ObjNo × List TypeRef) → Type 0
 ToldUpTo n [] = Unit {0}
 ToldUpTo n (e ∷ es) = (e.0.0 ≤ n) × ToldUpTo n es
 
--- the types of an object above all of these go last
-abbrev pub TellsLast : ObjNo → List TypeRef → Known → Known → Type 0
-TellsLast o types old new = (n : ℕ) → ToldUpTo n old.told → n < o.0 → new.told ≡ old.told ++ (o, types) ∷ []
-
 abbrev pub is_component : List (ObjNo × List TypeRef) → ObjNo → Bool
 is_component told o = has_type (types_among told o) (Builtin no.Component)
 
@@ -104,6 +100,10 @@ pub record Known : Type 0 where
 pub record Stored : Type 0 where
   pub known : Known
   pub room : ℕ
+
+-- the types of an object above all of these go last
+abbrev pub TellsLast : ObjNo → List TypeRef → Known → Known → Type 0
+TellsLast o types old new = (n : ℕ) → ToldUpTo n old.told → n < o.0 → new.told ≡ old.told ++ (o, types) ∷ []
 
 -- the object has these types then, and nothing else is changed
 abbrev pub TellsOf : ObjNo → List TypeRef → Known → Known → Type 0
