@@ -95,8 +95,8 @@ told_last n (e ∷ es) o v up above =
 
 pub left_up_to : (n : ℕ) (f : ObjNo × Vec TypeRef Global → Bool) (es : Entries) → ToldUpTo n (map told_pair es) → ToldUpTo n (map told_pair (filter f es))
 left_up_to n f [] up = tt
-left_up_to n f (e ∷ es) up = by_test (f e)
+left_up_to n f (e ∷ es) up = by_test (f e) (left_up_to n f es up.1)
   where
-    by_test : (b : Bool) → ToldUpTo n (map told_pair (cond b (e ∷ filter f es) (filter f es)))
-    by_test true = (up.0, left_up_to n f es up.1)
-    by_test false = left_up_to n f es up.1
+    by_test : (b : Bool) → ToldUpTo n (map told_pair (filter f es)) → ToldUpTo n (map told_pair (cond b (e ∷ filter f es) (filter f es)))
+    by_test true rest = (up.0, rest)
+    by_test false rest = rest
