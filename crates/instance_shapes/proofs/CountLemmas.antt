@@ -8,7 +8,7 @@ use Rattle.instance_plans.specs.Numbers.{AllRows, row_at}
 use Rattle.instance_shapes.specs.Told.{cells_of_documents}
 
 module _ (units : AllRows) where
-  cells_in : ℕ → List CellRow
+  abbrev cells_in : ℕ → List CellRow
   cells_in u = (row_at units u 0).cells
 
   one_more : (a : ℕ) (xs ys : List CellRow) → length ys ≡ a → length (xs ++ ys) ≡ length xs + a

@@ -27,15 +27,15 @@ use Rattle.instance_shapes.specs.declared.told.Viewer.{Viewer}
 use Rattle.instance_shapes.specs.Told.{pair_if, pairs_by, pairs_by_rows, end_in, instance_in, of_document, pairs_of_document, pairs_of_documents, pairs_of_row, pairs_written, viewer_of, cells_at, pairs_seen}
 
 -- the names of aliases, or the others
-is_of : Bool → NameMade → Bool
+abbrev is_of : Bool → NameMade → Bool
 is_of true n = n.is_alias
 is_of false n = not n.is_alias
 
 module _ (t : Tables) where
-  paired : NameMade → List ℕ × Found
+  abbrev paired : NameMade → List ℕ × Found
   paired n = with_found (rows_in t) (live_in t) (plan_in t) n
 
-  pairs_of : Bool → List NameMade → Pairs
+  abbrev pairs_of : Bool → List NameMade → Pairs
   pairs_of a ns = map paired (filter (is_of a) ns)
 
   pairs_app : (a : Bool) (xs ys : List NameMade) → pairs_of a (xs ++ ys) ≡ pairs_of a xs ++ pairs_of a ys
@@ -43,10 +43,10 @@ module _ (t : Tables) where
 
   -- ---- one row
 
-  names_by : Option PlannedInstance → Viewer → NameRow → List NameMade
+  abbrev names_by : Option PlannedInstance → Viewer → NameRow → List NameMade
   names_by s v r = made_by (rows_in t) (live_in t) (plan_in t) s v.unit v.number v.cells r
 
-  object_if : Bool → Option ℕ → Option Found
+  abbrev object_if : Bool → Option ℕ → Option Found
   object_if true n = option_map (found_object (rows_in t) (live_in t) (plan_in t)) n
   object_if false n = None
 
@@ -57,7 +57,7 @@ module _ (t : Tables) where
   object_row false name (Some m) = refl
   object_row false name None = refl
 
-  cell_if : Bool → ℕ → Option ℕ → Option Found
+  abbrev cell_if : Bool → ℕ → Option ℕ → Option Found
   cell_if true place n = option_map (λ m. finds.Cell (cell_no m place)) n
   cell_if false place n = None
 
@@ -68,7 +68,7 @@ module _ (t : Tables) where
   cell_row false name place w (Some m) = refl
   cell_row false name place w None = refl
 
-  row : Units → NameFinds → NameRow
+  abbrev row : Units → NameFinds → NameRow
   row name f = record { name = name; finds = f }
 
   row_by : (a : Bool) (s : Option PlannedInstance) (v : Viewer) (name : Units) (f : NameFinds) → pairs_by t s v a (row name f) ≡ pairs_of a (names_by s v (row name f))
@@ -94,7 +94,7 @@ module _ (t : Tables) where
 
   -- ---- documents
 
-  document_names : Viewer → ℕ → List NameMade
+  abbrev document_names : Viewer → ℕ → List NameMade
   document_names v u = names_of_document (rows_in t) (live_in t) (plan_in t) v.number v.cells u
 
   documents_by : (a : Bool) (v : Viewer) (us : List ℕ) → pairs_of_documents t v a us ≡ pairs_of a (flat_map (document_names v) us)
@@ -136,7 +136,7 @@ module _ (t : Tables) where
       ∙ ap (λ xs. xs ++ filter (is_of false) (flat_map (made_by (rows_in t) (live_in t) (plan_in t) None 0 n c) rows)) (all_by n c r.name r.finds)
       ∙ ap (λ xs. made_by (rows_in t) (live_in t) (plan_in t) None 0 n c r ++ xs) (all_in n c rows)
 
-  type_rows : TypeNo → List NameRow
+  abbrev type_rows : TypeNo → List NameRow
   type_rows b = rows_of_type (flat_map names_of_type (lineage b))
 
   builtin_own : (n c : ℕ) (b : TypeNo) → pairs_of_type n c b ≡ pairs_of false (builtin_names (rows_in t) (live_in t) (plan_in t) n c b)
@@ -167,7 +167,7 @@ module _ (t : Tables) where
       ∙ ap (λ ps. pairs_of false (bs ++ ds ++ os) ++ ps) (ap (λ ps. ps ++ pairs_of true ds ++ pairs_of true os) (sym (builtin_none n c b)) ∙ sym (three true bs ds os))
       ∙ last_two (bs ++ ds ++ os)
 
-  own_names : Viewer → ℕ → List NameMade
+  abbrev own_names : Viewer → ℕ → List NameMade
   own_names v o = flat_map (names_by (instance_in t v) v) (row_at (rows_in t) v.unit o).names
 
   written_parts : (v : Viewer) (o : ℕ) → pairs_written t v o ≡ map paired (aliases_last (rows_in t) (live_in t) (plan_in t)

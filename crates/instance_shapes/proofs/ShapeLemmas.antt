@@ -1,5 +1,5 @@
 -- The names of instances are those of the definition.
-use Rattle.std.proofs.Common.{◌≡◌, ◌∙◌, ap, sym, refl, ℕ, suc, List, [], ◌∷◌, ◌++◌, map, drop, length, Option, Some, None}
+use Rattle.std.proofs.Common.{◌≡◌, ◌∙◌, ap, sym, refl, ℕ, suc, ◌+◌, ◌<◌, List, [], ◌∷◌, ◌++◌, append_assoc, map, drop, get_or, drop-cons, add-one, length, Option, Some, None}
 use Rattle.std.specs.List.{flat_map, filter_map, cons_option}
 use Rattle.std.specs.Option.{option_map, unwrap_or}
 use Rattle.qml_base.specs.declared.numbers.ObjNo.{ObjNo}
@@ -39,11 +39,11 @@ module _ (t : Tables) where
       ap (λ xs. id_told t k id ++ xs) (ids_are k ids)
       ∙ id_is id.0 (number_in (placed t k).objects (id.1)) (filter_map (id_made (rows_in t) (live_in t) (plan_in t) (placed t k)) ids)
 
-  names_in : ℕ → PlannedInstance → InstanceNames
+  abbrev names_in : ℕ → PlannedInstance → InstanceNames
   names_in d s = names_of_instance (rows_in t) (live_in t) (plan_in t) t.first d s
 
   -- the names of an instance, with these as delegate names
-  with_names : List (List ℕ × CellNo) → InstanceNames → InstanceNames
+  abbrev with_names : List (List ℕ × CellNo) → InstanceNames → InstanceNames
   with_names names s = record { unit = s.unit; root = s.root; enclosing = s.enclosing; ids = s.ids; names = names; members = s.members }
 
   shape_is : (k d : ℕ) (names : List (List ℕ × CellNo)) → shape_told t k (placed t k) d (named_once names) ≡ shape_made (with_names names (names_in d (placed t k)))
@@ -78,3 +78,19 @@ module _ (t : Tables) where
 
 pub are_shapes : (t : Tables) (u r : ℕ) (delegates : List (List ℕ × Value)) → shapes_told t (length delegates) 0 (named_once (delegate_names t u r delegates)) t.instances.items ≡ shapes_of_plan t u r delegates
 are_shapes t u r delegates = first_is t (length delegates) (delegate_names t u r delegates) t.instances.items refl
+
+-- ---- one instance more
+
+item_at : (k : ℕ) (xs : List PlannedInstance) (x : PlannedInstance) → x ≡ get_or xs k x → k < length xs → drop k xs ≡ x ∷ drop (k + 1) xs
+item_at k xs x is less = drop-cons xs k x less ∙ ap (λ (y : PlannedInstance). y ∷ drop (suc k) xs) (sym is) ∙ ap (λ m. x ∷ drop m xs) (sym (add-one k))
+
+pub shapes_more : (t : Tables) (d k : ℕ) (names next : List (List ℕ × CellNo)) (xs : List PlannedInstance) (s : PlannedInstance) (before after : List Shape) (z : Shape)
+    → s ≡ get_or xs k s → k < length xs → after ≡ before ++ z ∷ [] → z ≡ shape_told t k s d names → next ≡ []
+    → after ++ shapes_told t d (k + 1) next (drop (k + 1) xs) ≡ before ++ shapes_told t d k names (drop k xs)
+shapes_more t d k names next xs s before after z is less e f none =
+    ap (λ ns. after ++ shapes_told t d (k + 1) ns (drop (k + 1) xs)) none
+    ∙ ap (λ ss. ss ++ shapes_told t d (k + 1) [] (drop (k + 1) xs)) e
+    ∙ append_assoc before (z ∷ []) (shapes_told t d (k + 1) [] (drop (k + 1) xs))
+    ∙ ap (λ y. before ++ (y ∷ shapes_told t d (k + 1) [] (drop (k + 1) xs))) f
+    ∙ ap (λ m. before ++ (shape_told t k s d names ∷ shapes_told t d m [] (drop (k + 1) xs))) (add-one k)
+    ∙ ap (λ ss. before ++ shapes_told t d k names ss) (sym (item_at k xs s is less))

@@ -61,7 +61,6 @@ fn put_document(
 }
 
 /// Puts the names that documents of an object's type declare.
-#[tactic(auto, using(instance_names::proofs::TypeLemmas::each_append))]
 fn put_documents(
     alloc: Global,
     tables: &Tables,

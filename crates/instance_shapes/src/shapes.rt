@@ -1,10 +1,7 @@
 //! The names of instances.
 
-ghost use Rattle.std.specs.Prelude.{◌≡◌, ◌++◌, ◌∷◌, [], List as AList, ℕ, suc, IfOk, OnOk, map, length, drop};
-ghost use Rattle.std.specs.List.{filter_map};
-ghost use Rattle.qml_value.specs.declared.value.Value.{Value as AValue};
+ghost use Rattle.std.specs.Prelude.{◌≡◌, ◌<◌, ◌^◌, ◌++◌, [], IfOk, OnOk, map, length};
 ghost use Rattle.instance_plans.specs.Numbers.{component_at};
-ghost use Rattle.instance_plans.specs.NamesMade.{id_made, delegate_cells};
 ghost use Rattle.instance_plans.specs.Shaped.{each_put, named_once};
 ghost use Rattle.instance_contents.specs.Tables.{Stands, rows_in, live_in, plan_in, placed};
 ghost use Rattle.instance_shapes.specs.Shapes as s;
@@ -192,6 +189,28 @@ fn delegate_names(
     Ok(names)
 }
 
+/// Puts the names of instances from the first place on, the first of them with these as delegate names.
+fn put_shapes(
+    alloc: Global,
+    tables: &Tables,
+    shapes: &mut Vec<Shape>,
+    instances: &[PlannedInstance],
+    delegates: usize,
+    first: NameTable<CellNo>,
+) -> Result<(), NoMemory>
+    requires stands { Stands tables.now }
+    requires few { length instances.now < 2 ^ 32 }
+    ensures { OnOk result (shapes.new.items ≡ shapes.old.items ++ s.shapes_told tables.now delegates 0 first instances.now) }
+{
+    let mut names = first;
+    'instances: for (place, instance) in instances.iter().enumerate() {
+        let shape = shape(alloc, tables, place as u32, instance, delegates, names)?;
+        shapes.push(shape)?;
+        names = NameTable::new(alloc);
+    }
+    Ok(())
+}
+
 /// The names of all instances of a plan of object `r` of a document, those of outer documents first. The first instance has the
 /// delegate names.
 #[tactic(auto, using(crate::proofs::ShapeLemmas::are_shapes))]
@@ -205,12 +224,16 @@ pub fn plan_shapes(
     requires { Stands tables.now }
     ensures { IfOk result (λ shapes. shapes.items ≡ s.shapes_of_plan tables.now u r delegates.now) }
 {
+    let names = delegate_names(alloc, tables, u, r, delegates)?;
     let mut shapes = Vec::new(alloc);
-    let mut names = delegate_names(alloc, tables, u, r, delegates)?;
-    'instances: for (place, instance) in tables.instances.iter().enumerate() {
-        let own = std::mem::replace(&mut names, NameTable::new(alloc));
-        let shape = shape(alloc, tables, place as u32, instance, delegates.len(), own)?;
-        shapes.push(shape)?;
-    }
+    let instances = tables.instances.as_slice();
+    put_shapes(
+        alloc,
+        tables,
+        &mut shapes,
+        instances,
+        delegates.len(),
+        names,
+    )?;
     Ok(shapes)
 }
