@@ -7,7 +7,8 @@ pub invariant_of-self-in-Ok : goal.invariant_of-self-in-Ok
 invariant_of-self-in-Ok c =
     let given : c.add.new.self.given ≡ c.self.inside.objects.given + 1 = search rules in
     let cells : c.add_cells.new.self ≡ c.catch_up.new.store ++ new_cells (record { 0 = c.given.result + 1 }) 0 c.args.cells.items = search rules in
-    let told = tells_last c.args.types.items c.self.inside.objects.given c.make_room.new.self.known c.tell_in_room.new.self.known (record { 0 = c.given.result + 1 }) c.self.invariant.1 c.make_room.ensures.known (ap (λ n. n + 1) c.given.ensures.given) c.tell_in_room.ensures.last in
+    let number : c.in-Ok.added.0 ≡ c.self.inside.objects.given + 1 = search rules in
+    let told = tells_last c.args.types.items c.self.inside.objects.given c.make_room.new.self.known c.tell_in_room.new.self.known c.in-Ok.added c.self.invariant.1 c.make_room.ensures.known number c.tell_in_room.ensures.last in
     (rw (given, cells) (added_below (record { 0 = c.given.result + 1 }) (c.self.inside.objects.given + 1) c.catch_up.new.store c.args.cells.items (ap (λ n. n + 1) c.given.ensures.given) (caught_below c.self.inside.stale c.self.inside.objects.objects c.self.inside.store c.catch_up.new.store _ c.catch_up.ensures.cells c.self.invariant.0)), rw given told)
 
 pub returns-in-Ok-clause-knows : goal.returns-in-Ok-clause-knows
