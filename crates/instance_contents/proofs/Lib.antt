@@ -1,6 +1,6 @@
 mod ListLemmas
 mod TypeLemmas
-mod PlaceLemmas
+pub mod PlaceLemmas
 mod TableLemmas
 mod SourceLemmas
 mod StateLemmas

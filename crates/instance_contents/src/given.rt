@@ -31,8 +31,8 @@ pub struct Source {
     pub row: usize,
 }
 
-/// Whether an object of an instance has its row there.
-fn has_row(tables: &Tables, instance: &PlannedInstance, o: u32) -> bool
+/// Whether an object of an instance has its row there: where a Component is made around it, its row is that of another instance.
+pub fn has_row(tables: &Tables, instance: &PlannedInstance, o: u32) -> bool
     ensures { result ≡ c.has_row (rows_in tables.now) (live_in tables.now) (plan_in tables.now) instance.now o }
 {
     o == instance.component || !is_held(tables.units, instance.unit, o)

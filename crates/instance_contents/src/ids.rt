@@ -2,7 +2,7 @@
 
 ghost use Rattle.std.specs.Prelude.{◌≡◌, ◌+◌, length, option_copied};
 ghost use Rattle.std.specs.Str.{bytes_eq};
-ghost use Rattle.qml_scope.specs.Names.{under};
+ghost use Rattle.name_table.specs.Named.{under};
 ghost use Rattle.qml_scope.specs.Shapes.{instance_at};
 ghost use Rattle.qml_scope.specs.Shapes as s;
 ghost use Rattle.instance_plans.specs.Contents as c;

@@ -12,7 +12,7 @@ mod objects;
 mod tables;
 mod types;
 
-pub use given::{Given, gather};
+pub use given::{Given, gather, has_row};
 pub use objects::{MadeObject, made_object, made_objects};
-pub use tables::{Tables, tables_of, value_at};
+pub use tables::{Tables, builtin_at, number_at, planned_at, tables_of, value_at};
 pub use types::{builtin_of, builtin_planned, documents_from};

@@ -1,1 +1,1 @@
-mod TypeLemmas
+pub mod TypeLemmas

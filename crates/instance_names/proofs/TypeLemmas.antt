@@ -6,7 +6,7 @@ use Rattle.qml_base.specs.declared.names.Found.{Found}
 use Rattle.qml_syntax.specs.Tree.{Units}
 use Rattle.qml_types.specs.declared.kind.TypeNo.{TypeNo}
 use Rattle.qml_types.specs.declared.kind.TypeNo.TheVariants as no
-use Rattle.qml_scope.specs.Names.{put}
+use Rattle.name_table.specs.Named.{put}
 use Rattle.instance_names.specs.Names.{each_put, pairs_of_base, AreNames}
 
 pub are_names : (t : TypeNo) → AreNames t

@@ -9,18 +9,13 @@ use Rattle.qml_types.specs.Members.{TypeSignal, own_signals, name_of, own_method
 use Rattle.qml_types.specs.declared.members.Method.{Method}
 use Rattle.qml_types.specs.declared.kind.TypeNo.{TypeNo}
 use Rattle.program_names.specs.Names.{changed}
-use Rattle.qml_scope.specs.Names.{put}
 use Rattle.qml_scope.specs.Shapes.{Known}
 use Rattle.instance_plans.specs.Numbers.{AllRows, Plan, object_no, cell_no}
+pub use Rattle.instance_plans.specs.Shaped.{each_put}
 use Rattle.instance_plans.specs.NamesMade.{hidden_cell, builtin_names, with_found}
 
 abbrev pub Pairs : Type 0
 Pairs = List (Units × Found)
-
--- names put one after another: one that is there already stays what it was
-abbrev pub each_put : {X : Type 0} → List (Units × X) → List (Units × X) → List (Units × X)
-each_put names [] = names
-each_put names (x ∷ rest) = each_put (put names (x.0) (x.1)) rest
 
 -- ---- names of built-in types, of an object of a number with so many cells
 

@@ -9,7 +9,7 @@ ghost use Rattle.instance_plans.specs.NamesMade.{hidden_cell as hidden_for};
 ghost use Rattle.instance_names.specs.Names as s;
 
 use qml_base::{CellNo, Found, NoMemory, ObjNo};
-use qml_scope::Named;
+use name_table::NameTable;
 use qml_text::{NoMemory as TextMemory, Text, TextBuilder};
 use qml_types::{Cell, Method, Signal, TypeNo, own_cells, own_methods, own_signals};
 use std::alloc::Global;
@@ -70,7 +70,7 @@ pub fn own_signal(number: u32, place: u32) -> Result<Found, NoMemory>
 /// Puts a property and the signal of its changes.
 fn put_shown(
     alloc: Global,
-    names: &mut Named<Found>,
+    names: &mut NameTable<Found>,
     number: u32,
     cell: &Cell,
 ) -> Result<(), NoMemory>
@@ -92,7 +92,7 @@ fn put_shown(
 /// Puts the names of a cell; a hidden one has none.
 fn put_cell(
     alloc: Global,
-    names: &mut Named<Found>,
+    names: &mut NameTable<Found>,
     number: u32,
     cell: &Cell,
 ) -> Result<(), NoMemory>
@@ -109,7 +109,7 @@ fn put_cell(
 #[tactic(auto, using(crate::proofs::TypeLemmas::each_append))]
 fn put_cells(
     alloc: Global,
-    names: &mut Named<Found>,
+    names: &mut NameTable<Found>,
     number: u32,
     shown: &[Cell],
 ) -> Result<(), NoMemory>
@@ -143,7 +143,7 @@ pub fn hidden_cell(number: u32, cells: u32, name: &str) -> Option<CellNo>
 /// Puts a method.
 fn put_method(
     alloc: Global,
-    names: &mut Named<Found>,
+    names: &mut NameTable<Found>,
     number: u32,
     cells: u32,
     method: Method,
@@ -158,7 +158,7 @@ fn put_method(
 /// Puts methods.
 fn put_methods(
     alloc: Global,
-    names: &mut Named<Found>,
+    names: &mut NameTable<Found>,
     number: u32,
     cells: u32,
     methods: &[Method],
@@ -174,7 +174,7 @@ fn put_methods(
 /// Puts a signal.
 fn put_signal(
     alloc: Global,
-    names: &mut Named<Found>,
+    names: &mut NameTable<Found>,
     number: u32,
     signal: &Signal,
 ) -> Result<(), NoMemory>
@@ -188,7 +188,7 @@ fn put_signal(
 /// Puts signals.
 fn put_signals(
     alloc: Global,
-    names: &mut Named<Found>,
+    names: &mut NameTable<Found>,
     number: u32,
     signals: &[Signal],
 ) -> Result<(), NoMemory>
@@ -204,7 +204,7 @@ fn put_signals(
 #[tactic(auto, using(crate::proofs::TypeLemmas::each_append))]
 fn put_base(
     alloc: Global,
-    names: &mut Named<Found>,
+    names: &mut NameTable<Found>,
     number: u32,
     cells: u32,
     base: TypeNo,
@@ -221,7 +221,7 @@ fn put_base(
 #[tactic(auto, using(crate::proofs::TypeLemmas::each_append))]
 pub fn put_builtin(
     alloc: Global,
-    names: &mut Named<Found>,
+    names: &mut NameTable<Found>,
     number: u32,
     cells: u32,
     of_type: TypeNo,

@@ -2,7 +2,7 @@
 
 use crate::put_builtin;
 use qml_base::{Found, ObjNo};
-use qml_scope::Named;
+use name_table::NameTable;
 use qml_text::Text;
 use qml_types::TypeNo;
 use std::test::Fail;
@@ -10,7 +10,7 @@ use std::test::Fail;
 #[test]
 fn a_change_has_twice_the_number(rt: HostRuntime) -> Result<(), Fail> {
     let alloc = rt.alloc();
-    let mut names: Named<Found> = Named::new(alloc);
+    let mut names: NameTable<Found> = NameTable::new(alloc);
     put_builtin(alloc, &mut names, 4, 13, TypeNo::Item)?;
     let name = Text::from_utf8(alloc, b"widthChanged")?;
     assert_eq!(rt; names.find(&name), Some(Found::Signal(ObjNo(4), 8)));

@@ -10,7 +10,7 @@ use Rattle.qml_value.specs.declared.value.Value.{Object as AnObject, Component a
 use Rattle.qml_types.specs.declared.kind.TypeNo.{TypeNo}
 use Rattle.qml_types.specs.declared.kind.TypeNo.TheVariants as no
 use Rattle.program_names.specs.Layers.{same_type}
-use Rattle.qml_scope.specs.Names.{under}
+use Rattle.name_table.specs.Named.{under}
 use Rattle.qml_scope.specs.Shapes.{Known, first_of, same_object, told_anywhere, types_among}
 use Rattle.unit_rows.specs.declared.given.ChangeRow.{ChangeRow}
 use Rattle.unit_rows.specs.Given.{cell_given, builtin_among}

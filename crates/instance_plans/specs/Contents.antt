@@ -11,7 +11,7 @@ use Rattle.qml_syntax.specs.Tree.{Units}
 use Rattle.qml_value.specs.declared.value.Value.{Value, Null, Text, Object as AnObject, Component as AComponent}
 use Rattle.qml_types.specs.declared.kind.TypeNo.TheVariants as no
 use Rattle.program_names.specs.Layers.{same_type}
-use Rattle.qml_scope.specs.Names.{under}
+use Rattle.name_table.specs.Named.{under}
 use Rattle.qml_scope.specs.Shapes.{Known, same_cell, instance_at, is_component}
 use Rattle.unit_rows.specs.declared.given.GivenValue.{GivenValue}
 use Rattle.unit_rows.specs.declared.given.GivenValue.TheVariants.{Literal as a_literal, Body as a_body, Object as an_object, Objects as some_objects, Id as an_id}

@@ -5,3 +5,4 @@ pub mod Cells
 pub mod Changes
 pub mod Plans
 pub mod Treed
+pub mod Shaped

@@ -30,7 +30,7 @@ module _ (F : TypeRef → ℕ → Plan → Plan) (grows : (t : TypeRef) (n : ℕ
       let more = each_grows units u r (placed F units u r g o) os in
       omega arith
 
-within_grows : (k : ℕ) (units : AllRows) (t : TypeRef) (n : ℕ) (p : Plan) → Grows p (inner_within k units t n p)
+pub within_grows : (k : ℕ) (units : AllRows) (t : TypeRef) (n : ℕ) (p : Plan) → Grows p (inner_within k units t n p)
 within_grows zero units t n p = omega arith
 within_grows (suc k) units (Builtin t) n p = omega arith
 within_grows (suc k) units (Document d) n p =

@@ -1,3 +1,4 @@
 mod StackLemmas
 mod GrowthLemmas
 mod NumberLemmas
+mod AscendingLemmas

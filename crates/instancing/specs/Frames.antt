@@ -11,7 +11,7 @@ open_of f = record {
   component = f.component;
   root = f.root;
   enclosing = f.enclosing;
-  numbers = f.numbers.items;
+  numbers = f.numbers;
   left = but_root f.component f.left.now;
   depth = f.depth;
 }

@@ -1,3 +1,4 @@
 pub mod Stack
 pub mod Frames
 pub mod Numbered
+pub mod Ascending

@@ -5,9 +5,8 @@
 #![tactic(auto)]
 
 mod numbers;
+mod placed;
 mod tables;
-#[cfg(test)]
-mod tests;
 
 pub use numbers::{Numbers, NumbersFault, plan_numbers};
 pub use tables::{component, is_held, object, owner_at, standing, type_at};

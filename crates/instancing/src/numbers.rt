@@ -4,11 +4,12 @@ ghost use Rattle.std.specs.Prelude.{◌≡◌, ℕ, ◌<◌, ◌≤◌, ◌+◌,
 ghost use Rattle.std.specs.Option.{option_and_then};
 ghost use Rattle.instance_plans.specs.Numbers.{AllRows, Plan as APlan, row_at, number_in, planned_from, inner_within};
 ghost use Rattle.unit_rows.specs.Seen.{all_seen};
-ghost use Rattle.instancing.specs.Numbered.{AreNumbered};
+ghost use Rattle.instancing.specs.Numbered.{AreNumbered, AreOwned};
 ghost use Rattle.instancing.specs.Stack.{resumed, begun, with_left, next_left, with_number, around, planned_in, added, plan_of};
 ghost use Rattle.instancing.specs.Frames.{open_of, opens, plan_so_far, planned_now};
 ghost use Rattle.instancing.specs.declared.numbers.NumbersFault.TheVariants as fault;
 
+use crate::placed::Placed;
 use crate::tables::{is_held, owner_at, standing, type_at};
 use instance_plans::{Planned, PlannedInstance};
 use qml_base::NoMemory;
@@ -39,7 +40,7 @@ struct Frame<'a> {
     component: u32,
     root: u32,
     enclosing: Option<u32>,
-    numbers: Vec<(u32, u32)>,
+    numbers: Placed,
     /// The objects of the component that are left; its root counts as placed.
     left: &'a [u32],
     /// How deep types are gone into below it.
@@ -57,24 +58,12 @@ struct Work<'a> {
     frames: Vec<Frame<'a>>,
 }
 
-/// The number that an object as written has got.
-fn number_of(numbers: &[(u32, u32)], o: u32) -> Option<u32>
-    ensures { result ≡ number_in numbers.now o }
-{
-    'numbers: for at in numbers {
-        if at.0 == o {
-            return Some(at.1);
-        }
-    }
-    None
-}
-
 /// The number of the owner of an object as written.
 fn owner_of(units: &[Unit], frame: &Frame, o: u32) -> Option<u32>
-    ensures { result ≡ option_and_then (number_in frame.now.numbers.items) (row_at (all_seen units.now) frame.now.unit o).owner }
+    ensures { result ≡ option_and_then (number_in frame.now.numbers) (row_at (all_seen units.now) frame.now.unit o).owner }
 {
     match owner_at(units, frame.unit, o) {
-        Some(owner) => number_of(frame.numbers.as_slice(), owner),
+        Some(owner) => frame.numbers.number(owner),
         None => None,
     }
 }
@@ -109,9 +98,7 @@ fn put_back<'a>(
     ensures { OnOk result (opens frames.new.items ≡ with_number o number (open_of frame.entry) ∷ opens frames.old.items) }
 {
     let mut frame = frame;
-    if frame.numbers.push((o, number)).is_err() {
-        return Err(NoMemory);
-    }
+    frame.numbers.push(o, number)?;
     match frames.push(frame) {
         Ok(()) => Ok(()),
         Err(_) => Err(NoMemory),
@@ -131,10 +118,8 @@ fn begin<'a>(
 ) -> Result<(), NoMemory>
     ensures { OnOk result (opens frames.new.items ≡ begun (all_seen units.now) unit component number enclosing depth ∷ opens frames.old.items) }
 {
-    let mut numbers = Vec::new(alloc);
-    if numbers.push((component, number)).is_err() {
-        return Err(NoMemory);
-    }
+    let mut numbers = Placed::new(alloc);
+    numbers.push(component, number)?;
     let frame = Frame {
         unit,
         component,
@@ -247,7 +232,7 @@ fn finish<'a>(work: &mut Work<'a>, frame: Frame<'a>) -> Result<(), NoMemory>
         component,
         root,
         enclosing,
-        objects: Rows::of_vec(numbers),
+        objects: Rows::of_vec(numbers.into_numbers()),
     };
     match work.instances.push(instance) {
         Ok(()) => Ok(()),
@@ -385,7 +370,7 @@ fn start<'a>(
 
 /// Numbers what is made of an object of a document, in the instance around it with this root, from the number `first` on, with an
 /// owner. `Full` comes exactly where that is more than `room` objects. It needs that `room` numbers from `first` on exist. It goes
-/// once over the objects that it numbers, but for the search of an owner among those of its instance.
+/// once over the objects that it numbers; an owner is found by halving among those of its instance, where these ascend.
 pub fn plan_numbers(
     alloc: Global,
     units: &[Unit],
@@ -400,6 +385,7 @@ pub fn plan_numbers(
     ensures ok { IfOk result (λ n. plan_of first n.objects.items n.instances.items ≡ planned_from (all_seen units.now) unit object enclosing owner first) }
     ensures within { IfOk result (λ n. length n.objects.items ≤ room) }
     ensures numbered { IfOk result (λ n. AreNumbered first n.objects.items) }
+    ensures owned { IfOk result (λ n. AreOwned first owner n.objects.items) }
     ensures full { IfErr result (λ e. e ≡ fault.Full → room < length (planned_from (all_seen units.now) unit object enclosing owner first).objects) }
 {
     if room == 0 {

@@ -33,6 +33,8 @@ use Rattle.tree_settling.specs.Settles.{Settles}
 use Rattle.qml_base.specs.declared.numbers.ExprNo.{ExprNo}
 use Rattle.qml_base.specs.declared.names.Home.{Home}
 use Rattle.evaluation.specs.Ask.{Ask}
+use Rattle.qml_types.specs.declared.kind.TypeRef.{TypeRef}
+use Rattle.qml_scope.specs.Shapes.{Known, ToldUpTo, TellsLast}
 use Rattle.live_tree.specs.Live.{Live, Knows, shown}
 
 -- a tree that evaluates all bindings at each settling knows everything
@@ -81,6 +83,16 @@ scrubbed_each gone (x ∷ xs) = (refl, scrubbed_each gone xs)
 
 pub scrubbed_spared : (gone : List ObjNo) (cells : List Cell) → AllSpared (scrubbed_cells gone cells)
 scrubbed_spared gone cells = scrubbed_each gone (cells_left gone cells)
+
+-- ---- types that were told
+told_more : (n : ℕ) (xs : List (ObjNo × List TypeRef)) (o : ObjNo) (types : List TypeRef) → o.0 ≡ n + 1 → ToldUpTo n xs → ToldUpTo (n + 1) (xs ++ (o, types) ∷ [])
+told_more n [] o types is up = (omega arith, tt)
+told_more n (x ∷ xs) o types is up = let one = up.0 in (omega arith, told_more n xs o types is up.1)
+
+pub tells_last : (types : List TypeRef) (n : ℕ) (before after : Known) (o : ObjNo) {old : Known} → ToldUpTo n old.told → before ≡ old → o.0 ≡ n + 1 → TellsLast o types before after → ToldUpTo (n + 1) after.told
+tells_last types n before after o {old} up same is tells =
+    let there : ToldUpTo n before.told = subst (λ (k : Known). ToldUpTo n k.told) (sym same) up in
+    rw (tells n there (omega arith)) (told_more n before.told o types is there)
 
 -- ---- one cell after the other
 pub mapped_next : (f : Cell → Cell) (xs final : List Cell) (i : ℕ) (x : Cell) → slice_get xs i ≡ Some x → take i xs ++ map f (drop i xs) ≡ final → take (suc i) (slice_set xs i (f x)) ++ map f (drop (suc i) (slice_set xs i (f x))) ≡ final

@@ -12,13 +12,11 @@ use Rattle.tree_model.specs.declared.cells.Object.{Object}
 use Rattle.tree_model.specs.declared.cells.Cell.{Cell}
 use Rattle.tree_model.specs.declared.cells.NewCell.{NewCell}
 use Rattle.property_store.specs.Stores.{new_cells}
-use Rattle.qml_scope.specs.declared.shape.Shape.{Shape}
-use Rattle.qml_scope.specs.declared.shape.Entry.{Entry}
 use Rattle.instance_plans.specs.Numbers.{planned_from, object_no}
 use Rattle.instance_plans.specs.declared.planned.Planned.{Planned}
-use Rattle.instance_plans.specs.NamesMade.{ObjectNames, InstanceNames}
 use Rattle.instance_plans.specs.Cells.{MadeObject}
 use Rattle.instance_plans.specs.Treed.{cell_made}
+use Rattle.instance_plans.specs.Shaped.{shape_made}
 use Rattle.instance_plans.specs.Plans.{Instance, PlanFault, by_field, full, plan_instance}
 use Rattle.machine_model.specs.State.{Machine, objects, Delivery, starts, completed}
 use Rattle.machine_model.specs.Acts.{Done, ◌>>=◌, ◌>>◌, nothing, look, turn_into, stop_with, each, by_test, tell}
@@ -42,19 +40,6 @@ cells_made n (x ∷ rest) = new_cells (object_no n) 0 (map cell_made x.cells) ++
 abbrev pub types_made : ℕ → List MadeObject → List (ObjNo × List TypeRef)
 types_made n [] = []
 types_made n (x ∷ rest) = (object_no n, x.types) ∷ types_made (suc n) rest
-
-abbrev pub entry_made : ObjectNames → Entry
-entry_made e = record { object = e.object; names = e.names }
-
-abbrev pub shape_made : InstanceNames → Shape
-shape_made s = record {
-  unit = s.unit;
-  root = s.root;
-  enclosing = s.enclosing;
-  ids = s.ids;
-  names = s.names;
-  members = map entry_made s.members;
-}
 
 -- the machine with the objects of an instance, which are written so
 abbrev pub with_instance : Option ObjNo → List Planned → Instance → Machine → Machine

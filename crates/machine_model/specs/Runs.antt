@@ -5,9 +5,9 @@ use Rattle.qml_scope.specs.declared.shape.Shape.{Shape}
 use Rattle.unit_rows.specs.Rows.{UnitRows}
 use Rattle.instance_plans.specs.Numbers.{AllRows}
 use Rattle.instance_plans.specs.NamesMade.{names_of_unit}
+use Rattle.instance_plans.specs.Shaped.{shape_made}
 use Rattle.machine_model.specs.State.{Machine, unanswered, Stop}
 use Rattle.machine_model.specs.Acts.{Ran, goes, stops}
-use Rattle.machine_model.specs.Making.{shape_made}
 use Rattle.machine_model.specs.Lines.{Event, opening, event, stop_entry}
 
 abbrev pub shapes_from : ℕ → List UnitRows → List Shape

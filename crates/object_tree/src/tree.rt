@@ -3,7 +3,7 @@ ghost use Rattle.std.specs.Prelude.{◌≡◌, ◌↔◌, ◌≢◌, ◌≤◌, 
 ghost use Rattle.tree_model.specs.declared.cells.Object.{Object};
 ghost use Rattle.tree_model.specs.Doomed.{Doomed, Stands, Begins, is_marked, marked_from};
 ghost use Rattle.tree_model.specs.Settling.{stands};
-ghost use Rattle.object_tree.specs.Trees.{found, owner_of, is_there, objects_but, MayOwn, IsFull, Adds, IsAt};
+ghost use Rattle.object_tree.specs.Trees.{found, owner_of, is_there, objects_but, MayOwn, IsFull, Adds, IsAt, AllUpTo};
 ghost use Rattle.tree_model.specs.Removing.{doomed_of, kept_of, AscendsFrom};
 
 use crate::links::{Links, Tie};
@@ -98,9 +98,10 @@ impl Tree {
         self.objects.len() as u32
     }
 
-    /// How many numbers were given.
+    /// How many numbers were given. No live object has a number above it.
     pub fn given(&self) -> u32
-        ensures { result ≡ self.now.given }
+        ensures given { result ≡ self.now.given }
+        ensures above { AllUpTo self.now.given self.now.objects }
     {
         self.places.len() as u32
     }

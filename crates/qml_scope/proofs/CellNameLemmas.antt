@@ -10,7 +10,8 @@ use Rattle.qml_base.specs.declared.names.Found.{Found}
 use Rattle.qml_scope.specs.declared.shape.Entry.{Entry}
 use Rattle.qml_scope.specs.declared.shape.Shape.{Shape}
 use Rattle.qml_scope.specs.declared.cell_names.NamePlace.{NamePlace}
-use Rattle.qml_scope.specs.Names.{named_by, row_name, row_found}
+use Rattle.name_table.specs.Named.{row_name, row_found}
+use Rattle.qml_scope.specs.Names.{named_by}
 use Rattle.qml_scope.specs.Shapes.{first_of, same_object, same_cell, is_cell, stands_among, name_among, delegate_name, name_at, name_of_cell, has_delegate}
 use Rattle.qml_scope.specs.CellNames.{first_place, name_place, delegate_place, entry_name_place, own_name_place, member_place, place_in, place_from, entry_name, name_within, name_there, NameRows, place_told, here_is, found_here, TellsMore, TellsBoth}
 

@@ -8,7 +8,7 @@ use Rattle.qml_base.specs.declared.numbers.UnitNo.{UnitNo}
 use Rattle.qml_base.specs.declared.names.Found.{Found}
 use Rattle.qml_scope.specs.declared.shape.Entry.{Entry}
 use Rattle.qml_scope.specs.declared.shape.Shape.{Shape}
-use Rattle.qml_scope.specs.Names.{under}
+use Rattle.name_table.specs.Named.{under}
 use Rattle.qml_scope.specs.Shapes.{first_of, same_object, same_unit, stands_among, told_among, told_in, holds, is_rooted, instance_of, instance_at, told_anywhere}
 use Rattle.qml_scope.specs.Seats.{sits_in, holders, entry_place, Seat, seats_from, seats, SeatOf}
 

@@ -1,5 +1,5 @@
 -- Types in a map, and instances taken away.
-use Rattle.std.proofs.Common.{◌≡◌, ◌∙◌, ap, sym, refl, cond, nat_eq, ℕ, not, Bool, true, false, List, [], ◌∷◌, map, filter, Option, None, Some, if◌then◌else◌}
+use Rattle.std.proofs.Common.{◌≡◌, ◌∙◌, ap, sym, refl, cond, nat_eq, ℕ, ◌≢◌, ◌≤◌, ◌<◌, arith, not, Bool, true, false, List, [], ◌∷◌, ◌++◌, map, filter, Option, None, Some, if◌then◌else◌}
 use Rattle.std.specs.declared.alloc.Global.{Global}
 use Rattle.std.specs.declared.vec.Vec.{Vec}
 use Rattle.std.proofs.lemmas.Bool.{eqb-true, false≢true}
@@ -8,7 +8,8 @@ use Rattle.qml_base.specs.declared.numbers.ObjNo.{ObjNo}
 use Rattle.qml_types.specs.declared.kind.TypeRef.{TypeRef}
 use Rattle.qml_scope.specs.declared.shape.Shape.{Shape}
 use Rattle.qml_value.specs.Scrubbing.{is_among}
-use Rattle.qml_scope.specs.Shapes.{types_among, told_pair, instances_but, instances_left, same_object}
+use Rattle.indexmap.specs.IndexMap.{insert_entry}
+use Rattle.qml_scope.specs.Shapes.{types_among, told_pair, ToldUpTo, instances_but, instances_left, same_object}
 use Rattle.std.specs.Result.{IsOk, OnOk}
 use Rattle.std.specs.declared.result.Result.{Result}
 use Rattle.std.specs.declared.result.Result.TheVariants.{Ok, Err}
@@ -76,3 +77,26 @@ types_left gone (e ∷ es) p = by_key (is_among gone e.0) refl (nat_eq p.0 e.0.0
     by_key true g true k rest = let same : is_among gone p ≡ true = same_among gone p e.0 k ∙ g in rest ∙ rw same refl
     by_key false g false k rest = rw k rest
     by_key false g true k rest = let same : is_among gone p ≡ false = same_among gone p e.0 k ∙ g in rw (k, same) refl
+
+-- ---- types of an object above all others
+
+same_number : ObjNo → ObjNo → Bool
+same_number a b = nat_eq a.0 b.0
+
+others : (m n : ℕ) → m ≢ n → nat_eq m n ≡ false
+others m n ne = grind (arith)
+
+pub told_last : (n : ℕ) (es : Entries) (o : ObjNo) (v : Vec TypeRef Global) → ToldUpTo n (map told_pair es) → n < o.0
+    → map told_pair (insert_entry (λ (a : ObjNo) (b : ObjNo). nat_eq a.0 b.0) es o v) ≡ map told_pair es ++ (o, v.items) ∷ []
+told_last n [] o v up above = refl
+told_last n (e ∷ es) o v up above =
+    let one = up.0 in
+    rw (others o.0 e.0.0 (λ s. absurd (omega arith))) (ap (λ rest. told_pair e ∷ rest) (told_last n es o v up.1 above))
+
+pub left_up_to : (n : ℕ) (f : ObjNo × Vec TypeRef Global → Bool) (es : Entries) → ToldUpTo n (map told_pair es) → ToldUpTo n (map told_pair (filter f es))
+left_up_to n f [] up = tt
+left_up_to n f (e ∷ es) up = by_test (f e) (left_up_to n f es up.1)
+  where
+    by_test : (b : Bool) → ToldUpTo n (map told_pair (filter f es)) → ToldUpTo n (map told_pair (cond b (e ∷ filter f es) (filter f es)))
+    by_test true rest = (up.0, rest)
+    by_test false rest = rest

@@ -10,7 +10,7 @@ use Rattle.qml_base.specs.declared.names.Found.TheVariants as finds
 use Rattle.qml_scope.specs.declared.shape.Entry.{Entry}
 use Rattle.qml_scope.specs.declared.shape.Shape.{Shape}
 use Rattle.qml_scope.specs.declared.cell_names.NamePlace.{NamePlace}
-use Rattle.qml_scope.specs.Names.{row_name}
+use Rattle.name_table.specs.Named.{row_name}
 use Rattle.qml_scope.specs.Shapes.{first_of, same_object, same_cell, is_cell, has_delegate}
 
 -- the place of the first row that passes a test, counted from k on

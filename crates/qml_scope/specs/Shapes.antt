@@ -1,5 +1,5 @@
 -- The names of live objects by component, and what a name finds from one of them.
-use Rattle.std.specs.Prelude.{◌≡◌, ◌+◌, ℕ, zero, suc, Bool, true, false, ◌&&◌, ◌||◌, nat_eq, if◌then◌else◌, List, [], ◌∷◌, length, codes, Option, Some, None, is_some}
+use Rattle.std.specs.Prelude.{◌≡◌, ◌≤◌, ◌<◌, ◌+◌, ◌++◌, ℕ, zero, suc, Bool, true, false, ◌&&◌, ◌||◌, nat_eq, if◌then◌else◌, List, [], ◌∷◌, length, codes, Option, Some, None, is_some}
 use Rattle.std.specs.Str.{bytes_eq}
 use Rattle.std.specs.declared.alloc.Global.{Global}
 use Rattle.std.specs.declared.vec.Vec.{Vec}
@@ -17,7 +17,8 @@ use Rattle.qml_types.specs.declared.kind.TypeRef.{TypeRef}
 use Rattle.qml_types.specs.declared.kind.TypeRef.TheVariants.{Builtin}
 use Rattle.qml_types.specs.declared.kind.TypeNo.TheVariants as no
 use Rattle.tree_model.specs.Converting.{has_type}
-use Rattle.qml_scope.specs.Names.{under, named_by}
+use Rattle.name_table.specs.Named.{under}
+use Rattle.qml_scope.specs.Names.{named_by}
 
 -- the first of two that there is
 abbrev pub first_of : {X : Type 0} → Option X → Option X → Option X
@@ -82,6 +83,11 @@ abbrev pub types_among : List (ObjNo × List TypeRef) → ObjNo → List TypeRef
 types_among [] o = []
 types_among (e ∷ es) o = if nat_eq o.0 e.0.0 then e.1 else types_among es o
 
+-- types were told of no object above a number
+abbrev pub ToldUpTo : ℕ → List (ObjNo × List TypeRef) → Type 0
+ToldUpTo n [] = Unit {0}
+ToldUpTo n (e ∷ es) = (e.0.0 ≤ n) × ToldUpTo n es
+
 abbrev pub is_component : List (ObjNo × List TypeRef) → ObjNo → Bool
 is_component told o = has_type (types_among told o) (Builtin no.Component)
 
@@ -94,6 +100,10 @@ pub record Known : Type 0 where
 pub record Stored : Type 0 where
   pub known : Known
   pub room : ℕ
+
+-- the types of an object above all of these go last
+abbrev pub TellsLast : ObjNo → List TypeRef → Known → Known → Type 0
+TellsLast o types old new = (n : ℕ) → ToldUpTo n old.told → n < o.0 → new.told ≡ old.told ++ (o, types) ∷ []
 
 -- the object has these types then, and nothing else is changed
 abbrev pub TellsOf : ObjNo → List TypeRef → Known → Known → Type 0

@@ -7,9 +7,9 @@ ghost use Rattle.qml_scope.specs.Shapes.{name_of_cell, has_delegate};
 ghost use Rattle.qml_scope.specs.CellNames.{place_told, here_is, own_of, cell_of, found_here, delegate_place, own_name_place, member_place, place_in, entry_name as entry_name_of, shape_name as shape_name_of, name_there, TellsMore, TellsBoth, TellsNames};
 
 use crate::instances;
-use crate::named::Named;
 use crate::shape::{Entry, Shape};
 use indexmap::{IndexMap, IndexSet};
+use name_table::NameTable;
 use qml_base::{CellNo, Found, ObjNo};
 use std::alloc::Global;
 
@@ -55,7 +55,7 @@ fn put(places: &mut IndexMap<(ObjNo, u32), NamePlace>, c: CellNo, p: NamePlace) 
 fn put_delegates(
     places: &mut IndexMap<(ObjNo, u32), NamePlace>,
     n: usize,
-    names: &Named<CellNo>,
+    names: &NameTable<CellNo>,
 ) -> bool
     ensures { result ≡ true → TellsMore places.old.entries places.new.entries (λ c. delegate_place n c names.now) }
 {

@@ -5,6 +5,7 @@ ghost use Rattle.qml_base.specs.declared.numbers.ObjNo.{ObjNo};
 ghost use Rattle.qml_scope.specs.Shapes.{stands_among, told_in, holds, is_rooted, instance_of, instance_at, seen_in, told_anywhere};
 ghost use Rattle.qml_scope.specs.Shapes.{name_among, name_at, name_of_cell, has_delegate};
 
+use crate::named::{name_finding, name_of};
 use crate::shape::{Entry, Shape};
 use qml_base::{CellNo, Found, ObjNo, UnitNo};
 use qml_text::Text;
@@ -97,7 +98,7 @@ fn name_among<'a>(entries: &'a [Entry], c: CellNo) -> Option<&'a [u16]>
 {
     for entry in entries {
         if entry.object == c.object {
-            return entry.names.name_finding(c);
+            return name_finding(&entry.names, c);
         }
     }
     None
@@ -106,7 +107,7 @@ fn name_among<'a>(entries: &'a [Entry], c: CellNo) -> Option<&'a [u16]>
 fn name_at<'a>(shape: &'a Shape, c: CellNo) -> Option<&'a [u16]>
     ensures { option_copied result ≡ name_at c shape.now }
 {
-    match shape.names.name_of(c) {
+    match name_of(&shape.names, c) {
         Some(name) => Some(name),
         None => name_among(shape.members.entries(), c),
     }
@@ -129,7 +130,7 @@ pub fn has_delegate(shapes: &[Shape], c: CellNo) -> bool
     ensures { result ≡ has_delegate c shapes.now }
 {
     for shape in shapes {
-        if shape.names.name_of(c).is_some() {
+        if name_of(&shape.names, c).is_some() {
             return true;
         }
     }

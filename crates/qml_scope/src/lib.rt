@@ -12,7 +12,7 @@ mod seats;
 mod shape;
 mod shapes;
 
-pub use named::Named;
+pub use name_table::NameTable;
 pub use resolving::{is_id, member, resolve};
 pub use shape::{Entry, Members, Shape};
 pub use shapes::Shapes;

@@ -2,7 +2,7 @@
 
 ghost use Rattle.std.specs.Prelude.{◌≡◌, ◌++◌, ◌∷◌, [], OnOk, OnErr};
 
-use crate::named::Named;
+use name_table::NameTable;
 use qml_base::{CellNo, Found, NoMemory, ObjNo, UnitNo};
 use std::alloc::Global;
 use std::marker::Model;
@@ -12,7 +12,7 @@ use std::marker::Model;
 #[derive(Drop)]
 pub struct Entry {
     pub object: ObjNo,
-    pub names: Named<Found>,
+    pub names: NameTable<Found>,
 }
 
 /// The objects of an instance with their names. Contracts see them as the list of the entries.
@@ -71,9 +71,9 @@ pub struct Shape {
     /// The root of the instance around it, in the same document.
     pub enclosing: Option<ObjNo>,
     /// The ids of the component.
-    pub ids: Named<ObjNo>,
+    pub ids: NameTable<ObjNo>,
     /// The delegate names of the root.
-    pub names: Named<CellNo>,
+    pub names: NameTable<CellNo>,
     /// What each object has under which name.
     pub members: Members,
 }

@@ -1,7 +1,7 @@
 //! The live instances, and the types of objects.
 
-ghost use Rattle.std.specs.Prelude.{◌≡◌, ◌<◌, ◌++◌, ◌∷◌, [], OnOk, OnErr, option_copied};
-ghost use Rattle.qml_scope.specs.Shapes.{TellsOf, ForgetsAll, types_among, instances_but, is_component, instance_of, instance_at, seen_in, told_anywhere, name_of_cell, has_delegate};
+ghost use Rattle.std.specs.Prelude.{◌≡◌, ℕ, ◌<◌, ◌++◌, ◌∷◌, [], OnOk, OnErr, option_copied};
+ghost use Rattle.qml_scope.specs.Shapes.{TellsOf, TellsLast, ToldUpTo, ForgetsAll, types_among, instances_but, is_component, instance_of, instance_at, seen_in, told_anywhere, name_of_cell, has_delegate};
 ghost use Rattle.std.specs.Prelude.{map, if◌then◌else◌};
 ghost use Rattle.qml_base.specs.declared.numbers.ObjNo.{ObjNo};
 ghost use Rattle.qml_value.specs.Scrubbing.{is_among};
@@ -77,7 +77,8 @@ fn keep_instances(instances: &mut Vec<Shape>, gone: &GoneObjects)
 }
 
 fn keep_types(told: &mut IndexMap<ObjNo, Vec<TypeRef>>, gone: &GoneObjects)
-    ensures { (p : ObjNo) → types_among (map told_pair told.new.entries) p ≡ (if is_among gone.now p then [] else types_among (map told_pair told.old.entries) p) }
+    ensures types { (p : ObjNo) → types_among (map told_pair told.new.entries) p ≡ (if is_among gone.now p then [] else types_among (map told_pair told.old.entries) p) }
+    ensures kept { (n : ℕ) → ToldUpTo n (map told_pair told.old.entries) → ToldUpTo n (map told_pair told.new.entries) }
 {
     told.retain(|object, _types| !gone.has(*object));
 }
@@ -181,10 +182,12 @@ impl Shapes {
         }
     }
 
-    /// Tells the types of an object, as `tell` does, where there is room for them. It takes no memory.
+    /// Tells the types of an object, as `tell` does, where there is room for them. Those of an object above all others go last. It
+    /// takes no memory.
     pub fn tell_in_room(&mut self, o: ObjNo, types: Vec<TypeRef>)
         requires { 0 < self.old.room }
-        ensures { TellsOf o types.items self.old.known self.new.known }
+        ensures told { TellsOf o types.items self.old.known self.new.known }
+        ensures last { TellsLast o types.items self.old.known self.new.known }
     {
         let _ = self.told.insert(o, types);
     }
@@ -208,7 +211,8 @@ impl Shapes {
 
     /// Drops the instances whose roots are gone, and the types of the objects that are gone. It takes no memory.
     pub fn forget_all(&mut self, gone: &[ObjNo])
-        ensures { ForgetsAll gone.now self.old.known self.new.known }
+        ensures forgets { ForgetsAll gone.now self.old.known self.new.known }
+        ensures kept { (n : ℕ) → ToldUpTo n self.old.known.told → ToldUpTo n self.new.known.told }
     {
         let gone = GoneObjects::new(gone);
         keep_instances(&mut self.instances, &gone);

@@ -2,7 +2,7 @@
 //! the trees are large, and the processor's time of each step is told. It is no part of the product.
 #![tactic(auto)]
 
-ghost use Rattle.std.specs.Prelude.{◌≡◌, ◌<◌};
+ghost use Rattle.std.specs.Prelude.{◌≡◌, ◌<◌, ◌≤◌};
 ghost use Rattle.object_tree.specs.Trees.{MayOwn};
 
 use copy_rules::Copies;
@@ -146,11 +146,23 @@ fn owner(tree: &LiveTree, o: ObjNo) -> Option<ObjNo>
     }
 }
 
-/// Objects each of which owns the next.
-fn deep(alloc: Global, count: u32) -> LiveTree {
+/// Which object owns the one that is added after i others.
+#[derive(Clone, Copy)]
+enum Owners {
+    /// Each owns the next.
+    Chain,
+    /// The first owns all others.
+    First,
+}
+
+/// Objects, each with such an owner.
+fn owned(alloc: Global, owners: Owners, count: u32) -> LiveTree {
     let mut tree = LiveTree::new(alloc);
     for i in 0..count {
-        let owner = owner(&tree, ObjNo(i));
+        let owner = match owners {
+            Owners::Chain => owner(&tree, ObjNo(i)),
+            Owners::First => owner(&tree, ObjNo(1)),
+        };
         if tree
             .add(owner, None, Vec::new(alloc), Vec::new(alloc))
             .is_err()
@@ -170,7 +182,7 @@ fn condemn<L: Ledger>(
     timed: bool,
 ) -> io::Result<()> {
     let begun = micros(rt)?;
-    let mut tree = deep(rt.alloc(), count);
+    let mut tree = owned(rt.alloc(), Owners::Chain, count);
     tell(rt, "added", tree.live() as usize, begun, timed)?;
     let full = tree
         .add(None, None, Vec::new(rt.alloc()), Vec::new(rt.alloc()))
@@ -203,6 +215,27 @@ fn condemn<L: Ledger>(
     tell(rt, "left", tree.live() as usize, begun, timed)
 }
 
+/// How many objects are condemned once these are, from the highest number down.
+fn condemn_down(tree: &mut LiveTree, low: u32, high: u32) -> usize
+    requires { low ≤ high }
+{
+    for k in 0..high - low {
+        tree.condemn(ObjNo(high - k));
+    }
+    tree.objects().doomed().len()
+}
+
+/// Condemns objects of which the first owns all others: the last ones one after another, and then the first.
+fn condemn_wide(rt: &HostRuntime, count: u32, timed: bool) -> io::Result<()> {
+    let mut tree = owned(rt.alloc(), Owners::First, count);
+    let begun = micros(rt)?;
+    let many = condemn_down(&mut tree, count - count / 10, count);
+    tell(rt, "condemned from the last on", many, begun, timed)?;
+    let begun = micros(rt)?;
+    let many = condemn_down(&mut tree, 0, 1);
+    tell(rt, "condemned the owner", many, begun, timed)
+}
+
 fn measure<L: Ledger>(
     rt: &HostRuntime,
     count: u32,
@@ -222,7 +255,8 @@ fn measure<L: Ledger>(
         let (cell, value) = (mem::size_of::<Cell>(), mem::size_of::<Value>());
         println!(rt; "a cell has {cell} bytes, {BESIDE_VALUES} beside 3 values of {value}")?;
     }
-    condemn(rt, objects, &mut steps, timed)
+    condemn(rt, objects, &mut steps, timed)?;
+    condemn_wide(rt, objects, timed)
 }
 
 fn main(rt: HostRuntime) -> io::Result<()> {

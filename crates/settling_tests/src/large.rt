@@ -3,55 +3,63 @@
 ghost use Rattle.std.specs.Prelude.{◌≡◌, ◌<◌};
 ghost use Rattle.object_tree.specs.Trees.{MayOwn};
 
-use crate::tests::{bound, cell, held, new_cell, number};
-use copy_rules::Copies;
-use live_tree::{AddFault, LiveTree};
+use crate::calls::{add, empty, held, settle};
+use crate::given::{Given, cell, content, new_cell};
+use live_tree::AddFault;
 use object_tree::Tree;
 use qml_base::{ObjNo, Steps};
-use qml_types::PropKind;
 use std::alloc::Global;
 use std::marker::Brand;
 use std::process::Abort;
 use std::sync::ledger::{Blank, Ledger};
 use std::test::Fail;
-use tree_model::{Content, NewCell};
+use tree_model::NewCell;
 
 const CELLS: u32 = 50_000;
 
 const OBJECTS: u32 = 100_000;
 
-/// Cells that copy the next one each; the last one is 7, or copies the first.
-fn row(alloc: Global, in_circle: bool) -> Result<Vec<NewCell>, Fail> {
+/// Cells that copy the next one each; the last one has this content.
+fn row(alloc: Global, last: Given) -> Result<Vec<NewCell>, Fail> {
     let mut cells = Vec::new(alloc);
     for place in 1..CELLS {
-        cells.push(new_cell(PropKind::Int, bound(0, place, 1)))?;
+        cells.push(new_cell(content(Given::Text(0, place, 1))))?;
     }
-    let last = if in_circle {
-        bound(0, 0, 1)
-    } else {
-        Content::Plain(number(7))
-    };
-    cells.push(new_cell(PropKind::Int, last))?;
+    cells.push(new_cell(content(last)))?;
     Ok(cells)
 }
 
-#[tactic(auto, using(live_tree::proofs::LiveLemmas::knows_all))]
+/// How many cells and reports are told of such a row.
+fn told_of_row<L: Ledger>(
+    alloc: Global,
+    last: Given,
+    steps: &mut Steps<L>,
+) -> Result<(usize, usize, Option<i64>), Fail> {
+    let mut tree = empty(alloc);
+    add(alloc, &mut tree, row(alloc, last)?)?;
+    let told = settle(alloc, &mut tree, steps)?;
+    Ok((
+        told.cells.len(),
+        told.reports.len(),
+        held(&tree, cell(1, 0)),
+    ))
+}
+
 fn rows_settle<L: Ledger>(rt: &impl Abort, alloc: Global, blank: Blank) -> Result<(), Fail>
     requires name { blank.name ≡ L.name }
     requires parts { blank.parts ≡ L.parts }
     requires some { 0 < L.parts }
 {
     let mut steps = Steps::<L>::new(blank);
-    let mut tree = LiveTree::new(alloc);
-    tree.add(None, None, Vec::new(alloc), row(alloc, false)?)?;
-    let told = tree.settle(alloc, &mut Copies, &mut steps)?;
-    assert_eq!(rt; told.cells.len(), CELLS as usize);
-    assert_eq!(rt; held(&tree, cell(1, 0)), Some(7));
-    let mut circle = LiveTree::new(alloc);
-    circle.add(None, None, Vec::new(alloc), row(alloc, true)?)?;
-    let told = circle.settle(alloc, &mut Copies, &mut steps)?;
-    assert_eq!(rt; told.cells.len(), 0);
-    assert_eq!(rt; told.reports.len(), CELLS as usize);
+    let all = CELLS as usize;
+    assert_eq!(rt;
+        told_of_row(alloc, Given::Number(7), &mut steps)?,
+        (all, 0, Some(7))
+    );
+    assert_eq!(rt;
+        told_of_row(alloc, Given::Text(0, 0, 1), &mut steps)?,
+        (0, all, None)
+    );
     Ok(())
 }
 

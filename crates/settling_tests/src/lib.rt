@@ -3,10 +3,16 @@
 #![tactic(auto)]
 
 #[cfg(test)]
+mod built_in;
+#[cfg(test)]
+mod calls;
+#[cfg(test)]
+mod given;
+#[cfg(test)]
 mod large;
 #[cfg(test)]
-mod rules;
+mod purging;
+#[cfg(test)]
+mod small;
 #[cfg(test)]
 mod stores;
-#[cfg(test)]
-mod tests;

@@ -1,6 +1,6 @@
 //! The store of cells by itself: what is held, how a settling ended, and what a removal notes.
 
-use crate::tests::{cell, number};
+use crate::given::{cell, number};
 use property_store::Store;
 use qml_base::{CellNo, ObjNo};
 use qml_text::Text;

@@ -1,5 +1,5 @@
 use Rattle.std.proofs.Common.{◌≡◌, drop}
-use Rattle.qml_scope.specs.Names.{under}
+use Rattle.name_table.specs.Named.{under}
 use Rattle.instance_contents.proofs.ids.find_id.Given as goal
 
 abbrev pub invariant-ids : goal.invariant-ids

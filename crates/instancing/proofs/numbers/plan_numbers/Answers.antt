@@ -3,7 +3,7 @@ use Rattle.instance_plans.specs.Numbers.{planned_from}
 use Rattle.unit_rows.specs.Seen.{all_seen}
 use Rattle.instancing.specs.Stack.{plan_of}
 use Rattle.instancing.proofs.GrowthLemmas.{one_at_least}
-use Rattle.instancing.proofs.NumberLemmas.{are_numbered}
+use Rattle.instancing.proofs.NumberLemmas.{are_numbered, are_owned}
 use Rattle.instancing.proofs.numbers.plan_numbers.Goals as goal
 
 pub returns-then-room-eq0-clause-full : goal.returns-then-room-eq0-clause-full
@@ -17,3 +17,8 @@ pub returns-clause-numbered : goal.returns-clause-numbered
 returns-clause-numbered c =
     let same : plan_of c.args.first c.run.new.work.objects.items c.run.new.work.instances.items ≡ planned_from (all_seen c.args.units.now) c.args.unit c.args.object c.args.enclosing c.args.owner c.args.first = search rules in
     are_numbered (all_seen c.args.units.now) c.args.unit c.args.object c.args.first c.args.enclosing c.args.owner c.run.new.work.objects.items c.run.new.work.instances.items same
+
+pub returns-clause-owned : goal.returns-clause-owned
+returns-clause-owned c =
+    let same : plan_of c.args.first c.run.new.work.objects.items c.run.new.work.instances.items ≡ planned_from (all_seen c.args.units.now) c.args.unit c.args.object c.args.enclosing c.args.owner c.args.first = search rules in
+    are_owned (all_seen c.args.units.now) c.args.unit c.args.object c.args.first c.args.enclosing c.args.owner c.run.new.work.objects.items c.run.new.work.instances.items same

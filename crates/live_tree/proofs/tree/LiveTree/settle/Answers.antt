@@ -22,7 +22,7 @@ invariant_of-self g c =
     let world = world_around (record { tree = tree_of c.self.inside.objects.objects c.catch_up.new.store; given = c.self.inside.objects.given; known = c.self.inside.shapes.known }) (g.R.Rules.asks c.args.rules.now) in
     let tree = tree_of c.self.inside.objects.objects c.as_mut_slice.result.now in
     let same : numbers_of c.of_cells.result ≡ numbers_of c.catch_up.new.store = ap numbers_of (c.of_cells.ensures ∙ back) ∙ settles_numbers world tree c.settle-settled.result c.settle-settled.new.cells c.settle-settled.ensures.settles ∙ ap numbers_of (c.as_mut_slice.ensures.value ∙ c.into_cells-all.ensures.cells ∙ c.replace-store.ensures.value) in
-    subst (λ ns. AllBelow (c.self.inside.objects.given + 1) ns) (sym same) (caught_below c.self.inside.stale c.self.inside.objects.objects c.self.inside.store c.catch_up.new.store _ c.catch_up.ensures.cells c.self.invariant)
+    (subst (λ ns. AllBelow (c.self.inside.objects.given + 1) ns) (sym same) (caught_below c.self.inside.stale c.self.inside.objects.objects c.self.inside.store c.catch_up.new.store _ c.catch_up.ensures.cells c.self.invariant.0), c.self.invariant.1)
 
 pub returns-clause-spared : goal.returns-clause-spared
 returns-clause-spared g c =

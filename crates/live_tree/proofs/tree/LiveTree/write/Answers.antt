@@ -7,14 +7,14 @@ use Rattle.live_tree.proofs.tree.LiveTree.write.Goals as goal
 pub invariant_of-self : goal.invariant_of-self
 invariant_of-self c =
     let inside = caught_inside c.self.inside.stale c.self.inside.objects.objects c.self.inside.store c.catch_up.new.store c.args.c c.catch_up.ensures.cells (subst (λ t. HasCell t.tree c.args.c) (sym c.self.view_is) c.requires) in
-    let below = caught_below c.self.inside.stale c.self.inside.objects.objects c.self.inside.store c.catch_up.new.store _ c.catch_up.ensures.cells c.self.invariant in
-    replaced_below c.catch_up.new.store c.assign.new.self c.args.c (Plain c.in-Ok-Value.w) _ inside c.assign.ensures.new below
+    let below = caught_below c.self.inside.stale c.self.inside.objects.objects c.self.inside.store c.catch_up.new.store _ c.catch_up.ensures.cells c.self.invariant.0 in
+    (replaced_below c.catch_up.new.store c.assign.new.self c.args.c (Plain c.in-Ok-Value.w) _ inside c.assign.ensures.new below, c.self.invariant.1)
 
 pub returns-in-Ok-Value-clause-knows : goal.returns-in-Ok-Value-clause-knows
 returns-in-Ok-Value-clause-knows c = λ asks h. knows_all asks _
 
 pub invariant_of-self-in-Ok : goal.invariant_of-self-in-Ok
-invariant_of-self-in-Ok c = caught_below c.self.inside.stale c.self.inside.objects.objects c.self.inside.store c.catch_up.new.store (c.self.inside.objects.given + 1) c.catch_up.ensures.cells c.self.invariant
+invariant_of-self-in-Ok c = (caught_below c.self.inside.stale c.self.inside.objects.objects c.self.inside.store c.catch_up.new.store (c.self.inside.objects.given + 1) c.catch_up.ensures.cells c.self.invariant.0, c.self.invariant.1)
 
 pub invariant_of-self-in-Err : goal.invariant_of-self-in-Err
-invariant_of-self-in-Err c = caught_below c.self.inside.stale c.self.inside.objects.objects c.self.inside.store c.catch_up.new.store (c.self.inside.objects.given + 1) c.catch_up.ensures.cells c.self.invariant
+invariant_of-self-in-Err c = (caught_below c.self.inside.stale c.self.inside.objects.objects c.self.inside.store c.catch_up.new.store (c.self.inside.objects.given + 1) c.catch_up.ensures.cells c.self.invariant.0, c.self.invariant.1)

@@ -1,0 +1,4 @@
+mod CountLemmas
+mod DocumentLemmas
+mod SeenLemmas
+mod ShapeLemmas

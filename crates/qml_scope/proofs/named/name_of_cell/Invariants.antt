@@ -1,7 +1,0 @@
-use Rattle.std.proofs.Common.{◌≡◌, drop, map}
-use Rattle.qml_scope.specs.Names.{named_by, pair_of}
-use Rattle.qml_scope.specs.Shapes.{same_cell}
-use Rattle.qml_scope.proofs.named.name_of_cell.Given as goal
-
-abbrev pub invariant-names : goal.invariant-names
-invariant-names l = named_by (same_cell l.c) (map pair_of (drop l.i l.entries.entries)) ≡ named_by (same_cell l.c) (map pair_of l.entries.entries)
