@@ -1,11 +1,11 @@
 //! Evaluation of whole texts.
 
-ghost use Rattle.std.specs.Prelude.{◌≡◌, ◌+◌};
+ghost use Rattle.std.specs.Prelude.{◌≡◌, ◌+◌, []};
 ghost use Rattle.evaluation.specs.Hearing.{heard, Answers};
 ghost use Rattle.js_meaning.specs.Eval.{asks_whole};
 ghost use Rattle.js_frames.specs.Stepping.{IsOutcome, EndsAs};
 
-use crate::running::run;
+use crate::running::run_from;
 use crate::starting::start;
 use evaluation::{Evaluated, Rules, View};
 use js_frames::{Code, Here, Machine, Next, Stack};
@@ -26,7 +26,16 @@ fn outcome(next: Next) -> Evaluated
     }
 }
 
-/// Goes on from what a text begins with to its end.
+/// No frame, in the room of these.
+fn cleared(frames: Stack) -> Stack
+    ensures { result ≡ [] }
+{
+    let mut frames = frames;
+    'frames: while let Some(_) = frames.pop() {}
+    frames
+}
+
+/// Goes on from what a text begins with to its end. The room of the frames is given back.
 #[tactic(auto, using(js_frames::proofs::EndLemmas::ends_as, js_frames::proofs::EndLemmas::no_answer))]
 fn run_to_end<V: View, C: Code>(
     alloc: Global,
@@ -35,36 +44,41 @@ fn run_to_end<V: View, C: Code>(
     here: Here,
     locals: Locals,
     first: Next,
+    frames: &mut Stack,
     reads: &mut Vec<CellNo>,
 ) -> Evaluated
+    requires { frames.now ≡ [] }
     ensures { EndsAs (record { names = V.names view.now; view = V.seen view.now }) (C.meaning code.now) (C.tables code.now) here locals first reads.old.items reads.new.items result }
 {
     let mut here = here;
     let mut machine = Machine {
-        frames: Stack::new(alloc),
+        frames: mem::replace(frames, Stack::new(alloc)),
         reads: mem::replace(reads, Vec::new(alloc)),
         left: NODE_LIMIT,
         locals,
     };
-    let ended = run(&mut machine, alloc, view, code, &mut here, first);
+    let ended = run_from(&mut machine, alloc, view, code, &mut here, first);
     *reads = machine.reads;
+    *frames = machine.frames;
     match ended {
         Ok(next) => outcome(next),
         Err(_) => Evaluated::NoMemory,
     }
 }
 
-/// Evaluates a text by a view, and adds the cells that it read, in order. It takes one step.
+/// Evaluates a text by a view, as `eval`, with frames in the room of these.
 #[tactic(auto, using(js_frames::proofs::EndLemmas::evaluates))]
-pub fn eval<V: View, C: Code, L: Ledger>(
+fn eval_over<V: View, C: Code, L: Ledger>(
     alloc: Global,
     view: &V,
     code: &C,
     home: Home,
     text: ExprNo,
+    frames: &mut Stack,
     reads: &mut Vec<CellNo>,
     steps: &mut Steps<L>,
 ) -> Evaluated
+    requires none { frames.now ≡ [] }
     ensures answers { Answers (heard (V.names view.now) (V.seen view.now) (asks_whole (C.meaning code.now) home text (C.texts code.now text))) reads.old.items reads.new.items result }
     ensures steps { steps.new ≡ steps.old + 1 }
 {
@@ -81,13 +95,31 @@ pub fn eval<V: View, C: Code, L: Ledger>(
         text,
         calls: CALL_LIMIT,
     };
-    run_to_end(alloc, view, code, here, locals, first, reads)
+    run_to_end(alloc, view, code, here, locals, first, frames, reads)
 }
 
-/// The evaluation of the texts of units.
+/// Evaluates a text by a view, and adds the cells that it read, in order. It takes one step.
+pub fn eval<V: View, C: Code, L: Ledger>(
+    alloc: Global,
+    view: &V,
+    code: &C,
+    home: Home,
+    text: ExprNo,
+    reads: &mut Vec<CellNo>,
+    steps: &mut Steps<L>,
+) -> Evaluated
+    ensures answers { Answers (heard (V.names view.now) (V.seen view.now) (asks_whole (C.meaning code.now) home text (C.texts code.now text))) reads.old.items reads.new.items result }
+    ensures steps { steps.new ≡ steps.old + 1 }
+{
+    let mut frames = Stack::new(alloc);
+    eval_over(alloc, view, code, home, text, &mut frames, reads, steps)
+}
+
+/// The evaluation of the texts of units. It keeps the room of its frames from one text to the next.
 #[derive(Drop)]
 pub struct UnitRules<'a, C> {
     code: &'a C,
+    frames: Option<Stack>,
 }
 
 impl<'a, C> UnitRules<'a, C> {
@@ -95,7 +127,18 @@ impl<'a, C> UnitRules<'a, C> {
     pub fn over(code: &'a C) -> UnitRules<'a, C>
         ensures { result.code.now ≡ code.now }
     {
-        UnitRules { code }
+        UnitRules { code, frames: None }
+    }
+
+    /// No frame, in the room that was kept.
+    fn room(&mut self, alloc: Global) -> Stack
+        ensures frames { result ≡ [] }
+        ensures code { self.new.code.now ≡ self.old.code.now }
+    {
+        match mem::replace(&mut self.frames, None) {
+            Some(frames) => cleared(frames),
+            None => Stack::new(alloc),
+        }
     }
 }
 
@@ -111,6 +154,18 @@ impl<'a, C: Code, L: Ledger> Rules<L> for UnitRules<'a, C> {
         reads: &mut Vec<CellNo>,
         steps: &mut Steps<L>,
     ) -> Evaluated {
-        eval(alloc, view, self.code, home, text, reads, steps)
+        let mut frames = self.room(alloc);
+        let answer = eval_over(
+            alloc,
+            view,
+            self.code,
+            home,
+            text,
+            &mut frames,
+            reads,
+            steps,
+        );
+        self.frames = Some(frames);
+        answer
     }
 }

@@ -12,8 +12,9 @@ use crate::calling::{entered, returned};
 use crate::statements::{declared, rested, run_at, taken};
 use crate::unwinding::{gives, goes_again, goes_on, stops};
 use evaluation::{Evaluated, View};
+use js_direct::begun_directly;
 use js_frames::{Code, Frame, Here, Machine, Next, Spot};
-use js_steps::{arguments, begun, resumed, signs, stepped};
+use js_steps::{arguments, resumed, signs, stepped};
 use qml_base::Home;
 use qml_syntax::Tree;
 use qml_text::NoMemory;
@@ -113,7 +114,7 @@ fn found<V: View>(
 }
 
 /// One move within the code that is under way.
-#[tactic(auto, using(js_progress::proofs::MovingLemmas::begun_at, js_progress::proofs::MovingLemmas::steps_at, js_progress::proofs::MovingLemmas::signs_at, js_progress::proofs::MovingLemmas::args_at, js_progress::proofs::MovingLemmas::runs_at, js_progress::proofs::MovingLemmas::rests_at, js_progress::proofs::MovingLemmas::vars_at))]
+#[tactic(auto, using(js_progress::proofs::MovingLemmas::steps_at, js_progress::proofs::MovingLemmas::signs_at, js_progress::proofs::MovingLemmas::args_at, js_progress::proofs::MovingLemmas::runs_at, js_progress::proofs::MovingLemmas::rests_at, js_progress::proofs::MovingLemmas::vars_at))]
 fn moved_within<V: View>(
     machine: &mut Machine,
     alloc: Global,
@@ -126,7 +127,7 @@ fn moved_within<V: View>(
 {
     match next {
         Next::Begin(at) => {
-            let next = begun(machine, alloc, tree, view, home, at)?;
+            let next = begun_directly(machine, alloc, tree, view, home, at)?;
             Ok(next)
         }
         Next::Back(value) => back(machine, alloc, tree, view, home, value),
@@ -335,4 +336,76 @@ pub(crate) fn run<V: View, C: Code>(
         }
     }
     Ok(next)
+}
+
+/// The first moves of an expression: to its end, where operands show what they are at once.
+#[inline]
+#[tactic(auto, using(js_direct::proofs::DirectLemmas::then_back))]
+fn first_moved<V: View>(
+    machine: &mut Machine,
+    alloc: Global,
+    tree: &Tree,
+    view: &V,
+    home: Home,
+    at: usize,
+) -> Result<Next, NoMemory>
+    ensures { IfOk result (λ y. MovesAt (record { names = V.names view.now; view = V.seen view.now }) (laid tree.now) home (standing machine.old) (Next.Begin at) (standing machine.new) y) }
+{
+    let next = begun_directly(machine, alloc, tree, view, home, at)?;
+    match next {
+        Next::Back(value) => {
+            let last = back(machine, alloc, tree, view, home, value)?;
+            Ok(last)
+        }
+        other => Ok(other),
+    }
+}
+
+/// The first moves of the text that is under way, from the expression at a place on.
+#[inline]
+#[tactic(auto, using(crate::proofs::FirstLemmas::goes_within))]
+fn first_within<V: View, C: Code>(
+    machine: &mut Machine,
+    alloc: Global,
+    view: &V,
+    code: &C,
+    here: Here,
+    at: usize,
+) -> Result<Next, NoMemory>
+    ensures { IfOk result (λ y. Goes (record { names = V.names view.now; view = V.seen view.now }) (C.meaning code.now) (C.tables code.now) here here (standing machine.old) (Next.Begin at) (standing machine.new) y) }
+{
+    let Some(tree) = code.tree(here.text) else {
+        return Err(NoMemory);
+    };
+    let next = first_moved(machine, alloc, tree, view, here.home, at)?;
+    Ok(next)
+}
+
+/// Goes on from what a text begins with to the end.
+#[inline]
+#[tactic(auto, using(crate::proofs::FirstLemmas::goes_first, crate::proofs::FirstLemmas::goes_further))]
+pub(crate) fn run_from<V: View, C: Code>(
+    machine: &mut Machine,
+    alloc: Global,
+    view: &V,
+    code: &C,
+    here: &mut Here,
+    first: Next,
+) -> Result<Next, NoMemory>
+    ensures { IfOk result (λ y. Goes (record { names = V.names view.now; view = V.seen view.now }) (C.meaning code.now) (C.tables code.now) here.old here.new (standing machine.old) first (standing machine.new) y) }
+{
+    match first {
+        Next::Begin(at) => {
+            let next = first_within(machine, alloc, view, code, *here, at)?;
+            if has_ended(&next) {
+                return Ok(next);
+            }
+            let last = run(machine, alloc, view, code, here, next)?;
+            Ok(last)
+        }
+        other => {
+            let last = run(machine, alloc, view, code, here, other)?;
+            Ok(last)
+        }
+    }
 }

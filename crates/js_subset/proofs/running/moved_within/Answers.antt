@@ -3,16 +3,15 @@ use Rattle.js_locals.specs.Laid.{laid}
 use Rattle.js_frames.specs.Meant.{World}
 use Rattle.js_frames.specs.Standing.{standing}
 use Rattle.js_frames.specs.declared.frames.Next.TheVariants as next
-use Rattle.js_progress.proofs.MovingLemmas.{of_next, begun_at, steps_at, signs_at, args_at, runs_at, rests_at, vars_at, targets_at, spot_at}
+use Rattle.js_progress.proofs.MovingLemmas.{of_next, steps_at, signs_at, args_at, runs_at, rests_at, vars_at, targets_at, spot_at}
 use Rattle.js_subset.proofs.running.moved_within.Goals as goal
 
 pub returns-in-Begin : goal.returns-in-Begin
 returns-in-Begin g c =
     let w : World = record { names = g.V.View.names c.args.view.now; view = g.V.View.seen c.args.view.now } in
     let old = standing c.args.machine.now in
-    let new = standing c.begun.new.machine in
-    of_next w (laid c.args.tree.now) c.args.home old new c.args.next (next.Begin c.in-Begin.at) c.in_ok-next-in-Begin.next c.in-Begin.is
-    (begun_at w (laid c.args.tree.now) c.args.home c.in-Begin.at old new c.in_ok-next-in-Begin.next c.in_ok-next-in-Begin.ensures)
+    let new = standing c.begun_directly.new.machine in
+    of_next w (laid c.args.tree.now) c.args.home old new c.args.next (next.Begin c.in-Begin.at) c.in_ok-next-in-Begin.next c.in-Begin.is c.in_ok-next-in-Begin.ensures
 
 pub returns-in-Step : goal.returns-in-Step
 returns-in-Step g c =

@@ -1,6 +1,6 @@
 use Rattle.std.proofs.Common.{refl}
 use Rattle.js_frames.proofs.EndLemmas.{evaluates}
-use Rattle.js_subset.proofs.evaluating.eval.Goals as goal
+use Rattle.js_subset.proofs.evaluating.eval_over.Goals as goal
 
 pub returns-clause-answers : goal.returns-clause-answers
 returns-clause-answers g c =
