@@ -16,13 +16,13 @@ use Rattle.instance_plans.specs.Cells.{MadeObject}
 use Rattle.instance_plans.specs.Plans.{Instance}
 use Rattle.instance_plans.specs.Shaped.{shape_made}
 use Rattle.instance_plans.specs.Treed.{cell_made}
-use Rattle.instance_contents.specs.Making.{Looks, looks_of}
+use Rattle.instance_contents.specs.Making.{looks_of}
 use Rattle.live_tree.specs.Live.{Live}
 use Rattle.machine_model.specs.State.{Machine}
-use Rattle.machine_model.specs.Acts.{Ran, goes, each}
+use Rattle.machine_model.specs.Acts.{goes, each}
 use Rattle.machine_model.specs.Making.{object_made, objects_made, cells_made, types_made, numbered_from, made_entry, tell_made, with_instance}
-use Rattle.machine_making.specs.Adding.{objects_added, cells_added, types_added, made_told, AddsAll, TellsObjects}
-use Rattle.machine_making.specs.Makes.{Stands, machine_with, IsTheMachines}
+use Rattle.machine_making.specs.Adding.{objects_added, cells_added, types_added, made_told}
+use Rattle.machine_making.specs.Makes.{machine_with, IsTheMachines}
 
 objects_same : (origin : Option ObjNo) (n : ℕ) (xs : List MadeObject) → objects_added origin n (map looks_of xs) ≡ objects_made origin n xs
 objects_same origin n [] = refl
@@ -60,11 +60,11 @@ pub makes : (origin : Option ObjNo) (planned : List Planned) (i : Instance) (m :
 makes origin planned i m old new told longer before starts s a t =
     told_same (suc m.given) i.objects (with_instance origin planned i m)
     ∙ ap (goes tt) (with_all m planned new longer _ _ _ _
-      (tree_is new.tree _ _
-        (a.objects ∙ ap (λ (x : Tree). x.objects ++ objects_added origin (suc old.given) (map looks_of i.objects)) (sym s.tree) ∙ ap (λ n. m.tree.objects ++ objects_added origin (suc n) (map looks_of i.objects)) (sym s.given) ∙ ap (λ xs. m.tree.objects ++ xs) (objects_same origin (suc m.given) i.objects))
-        (a.cells ∙ ap (λ (x : Tree). x.cells ++ cells_added (suc old.given) (map looks_of i.objects)) (sym s.tree) ∙ ap (λ n. m.tree.cells ++ cells_added (suc n) (map looks_of i.objects)) (sym s.given) ∙ ap (λ xs. m.tree.cells ++ xs) (cells_same (suc m.given) i.objects)))
-      (ap (λ n. m.given + n) (sym (length-map i.objects looks_of)) ∙ ap (λ n. n + length (map looks_of i.objects)) s.given ∙ sym a.given)
-      (known_is new.known _ _
-        (a.instances ∙ ap (λ (k : Known). k.instances ++ map shape_made i.names) (sym s.known))
-        (a.told ∙ ap (λ (k : Known). k.told ++ types_added (suc old.given) (map looks_of i.objects)) (sym s.known) ∙ ap (λ n. m.known.told ++ types_added (suc n) (map looks_of i.objects)) (sym s.given) ∙ ap (λ xs. m.known.told ++ xs) (types_same (suc m.given) i.objects)))
-      (ap (λ ts. ts ++ made_told (suc m.given) (map looks_of i.objects)) s.trace_so ∙ ap (λ n. told ++ made_told (suc n) (map looks_of i.objects)) s.given ∙ sym t.trace))
+    (tree_is new.tree _ _
+    (a.objects ∙ ap (λ (x : Tree). x.objects ++ objects_added origin (suc old.given) (map looks_of i.objects)) (sym s.tree) ∙ ap (λ n. m.tree.objects ++ objects_added origin (suc n) (map looks_of i.objects)) (sym s.given) ∙ ap (λ xs. m.tree.objects ++ xs) (objects_same origin (suc m.given) i.objects))
+    (a.cells ∙ ap (λ (x : Tree). x.cells ++ cells_added (suc old.given) (map looks_of i.objects)) (sym s.tree) ∙ ap (λ n. m.tree.cells ++ cells_added (suc n) (map looks_of i.objects)) (sym s.given) ∙ ap (λ xs. m.tree.cells ++ xs) (cells_same (suc m.given) i.objects)))
+    (ap (λ n. m.given + n) (sym (length-map i.objects looks_of)) ∙ ap (λ n. n + length (map looks_of i.objects)) s.given ∙ sym a.given)
+    (known_is new.known _ _
+    (a.instances ∙ ap (λ (k : Known). k.instances ++ map shape_made i.names) (sym s.known))
+    (a.told ∙ ap (λ (k : Known). k.told ++ types_added (suc old.given) (map looks_of i.objects)) (sym s.known) ∙ ap (λ n. m.known.told ++ types_added (suc n) (map looks_of i.objects)) (sym s.given) ∙ ap (λ xs. m.known.told ++ xs) (types_same (suc m.given) i.objects)))
+    (ap (λ ts. ts ++ made_told (suc m.given) (map looks_of i.objects)) s.trace_so ∙ ap (λ n. told ++ made_told (suc n) (map looks_of i.objects)) s.given ∙ sym t.trace))

@@ -6,7 +6,7 @@ use Rattle.live_tree.specs.Live.{Live}
 use Rattle.instance_plans.specs.declared.planned.Planned.{Planned}
 use Rattle.instance_plans.specs.Plans.{Instance}
 use Rattle.instance_plans.specs.Shaped.{shape_made}
-use Rattle.instance_contents.specs.Making.{Looks, looks_of}
+use Rattle.instance_contents.specs.Making.{looks_of}
 use Rattle.machine_model.specs.State.{Machine}
 use Rattle.machine_model.specs.Acts.{goes}
 use Rattle.machine_model.specs.Making.{add_told}

@@ -60,8 +60,8 @@ fn add_object(
 ) -> Result<(), NoMemory>
     requires origin { MayOwn tree.old.tree.objects origin }
     requires owner { MayOwn tree.old.tree.objects (option_map object_no made.owner) }
-    ensures adds { OnOk result (AddsObjects origin (looks made.entry ∷ []) tree.old tree.new) }
-    ensures tells { OnOk result (TellsObjects tree.old.given (looks made.entry ∷ []) trace.old.items trace.new.items starting.old.items starting.new.items) }
+    ensures adds { OnOk result (AddsObjects origin (looks made ∷ []) tree.old tree.new) }
+    ensures tells { OnOk result (TellsObjects tree.old.given (looks made ∷ []) trace.old.items trace.new.items starting.old.items starting.new.items) }
     ensures knows { (asks : ExprNo → Home → Ask) → Knows asks tree.old → Knows asks tree.new }
 {
     let MadeObject {
@@ -88,8 +88,8 @@ pub fn add_objects(
 ) -> Result<(), NoMemory>
     requires origin { MayOwn tree.old.tree.objects origin }
     requires owned { OwnedBefore (suc tree.old.given) (suc tree.old.given) (map looks made.items) }
-    ensures adds { OnOk result (AddsObjects origin (map looks made.entry.items) tree.old tree.new) }
-    ensures tells { OnOk result (TellsObjects tree.old.given (map looks made.entry.items) trace.old.items trace.new.items starting.old.items starting.new.items) }
+    ensures adds { OnOk result (AddsObjects origin (map looks made.items) tree.old tree.new) }
+    ensures tells { OnOk result (TellsObjects tree.old.given (map looks made.items) trace.old.items trace.new.items starting.old.items starting.new.items) }
     ensures knows { (asks : ExprNo → Home → Ask) → Knows asks tree.old → Knows asks tree.new }
 {
     let _ = tree.given();
@@ -103,7 +103,7 @@ pub fn add_objects(
 
 /// Adds the names of instances.
 fn add_shapes(tree: &mut LiveTree, shapes: Vec<Shape>) -> Result<(), NoMemory>
-    ensures adds { OnOk result (AddsShapes shapes.entry.items tree.old tree.new) }
+    ensures adds { OnOk result (AddsShapes shapes.items tree.old tree.new) }
     ensures knows { (asks : ExprNo → Home → Ask) → Knows asks tree.old → Knows asks tree.new }
 {
     let mut left = shapes;
@@ -126,8 +126,8 @@ pub fn add_instance(
 ) -> Result<(), NoMemory>
     requires origin { MayOwn tree.old.tree.objects origin }
     requires owned { OwnedBefore (suc tree.old.given) (suc tree.old.given) (map looks made.items) }
-    ensures adds { OnOk result (AddsAll origin (map looks made.entry.items) shapes.entry.items tree.old tree.new) }
-    ensures tells { OnOk result (TellsObjects tree.old.given (map looks made.entry.items) trace.old.items trace.new.items starting.old.items starting.new.items) }
+    ensures adds { OnOk result (AddsAll origin (map looks made.items) shapes.items tree.old tree.new) }
+    ensures tells { OnOk result (TellsObjects tree.old.given (map looks made.items) trace.old.items trace.new.items starting.old.items starting.new.items) }
     ensures knows { (asks : ExprNo → Home → Ask) → Knows asks tree.old → Knows asks tree.new }
 {
     add_objects(tree, origin, made, trace, starting)?;

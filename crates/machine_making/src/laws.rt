@@ -10,7 +10,6 @@ ghost use Rattle.machine_model.specs.State.{Machine};
 ghost use Rattle.machine_making.specs.Makes.{IsTheMachines};
 
 /// What `add_instance` does to the tree and the trace is what the machine does where it adds an instance that looks so.
-#[tactic(auto, using(crate::proofs::MakesLemmas::makes))]
 pub fn adding_is_the_machines()
     ensures { (origin : Option ObjNo) (planned : List Planned) (i : Instance) (m : Machine) (old new : Live) (told longer : List Entry) (before starts : List ObjNo) → IsTheMachines origin planned i m old new told longer before starts }
 {}
