@@ -15,3 +15,12 @@ under (row ∷ rest) name = if bytes_eq name row.0 then Some row.1 else under re
 -- a name that is there already keeps what stands under it, another one goes last
 abbrev pub put : {V : Type 0} → List (List ℕ × V) → List ℕ → V → List (List ℕ × V)
 put names name value = if is_some (under names name) then names else names ++ (name, value) ∷ []
+
+-- the name of a row, and what stands under it
+abbrev pub row_name : {V : Type 0} → Option (List ℕ × V) → Option (List ℕ)
+row_name None = None
+row_name (Some row) = Some row.0
+
+abbrev pub row_found : {V : Type 0} → Option (List ℕ × V) → Option V
+row_found None = None
+row_found (Some row) = Some row.1

@@ -2,8 +2,8 @@
 //! counts. It promises that finding a name is finding it in that list.
 #![tactic(auto)]
 
-ghost use Rattle.std.specs.Prelude.{◌≡◌, [], length, OnOk, OnErr};
-ghost use Rattle.name_table.specs.Named.{under, put};
+ghost use Rattle.std.specs.Prelude.{◌≡◌, [], length, slice_get, option_copied, OnOk, OnErr};
+ghost use Rattle.name_table.specs.Named.{under, put, row_name, row_found};
 
 #[cfg(test)]
 mod tests;
@@ -72,5 +72,25 @@ impl<V: Copy> NameTable<V> {
         ensures { result ≡ length self.now }
     {
         self.entries.len()
+    }
+
+    /// The name at the place, as UTF-16 units.
+    pub fn name_at(&self, i: usize) -> Option<&[u16]>
+        ensures { option_copied result ≡ row_name (slice_get self.now i) }
+    {
+        match self.entries.get_index(i) {
+            Some(pair) => Some(pair.0.as_slice()),
+            None => None,
+        }
+    }
+
+    /// What stands under the name at the place.
+    pub fn found_at(&self, i: usize) -> Option<V>
+        ensures { result ≡ row_found (slice_get self.now i) }
+    {
+        match self.entries.get_index(i) {
+            Some(pair) => Some(*pair.1),
+            None => None,
+        }
     }
 }

@@ -17,5 +17,7 @@ fn finds_the_first_of_a_name(rt: HostRuntime) -> Result<(), Fail> {
     assert_eq!(rt; names.find(&height), Some(4));
     assert_eq!(rt; names.find(&Text::new()), None);
     assert_eq!(rt; names.len(), 2);
+    assert_eq!(rt; names.found_at(1), Some(4));
+    assert_eq!(rt; names.name_at(2), None);
     Ok(())
 }

@@ -1,5 +1,5 @@
 -- Condemning an object that stands: it is marked first, and what hangs on marked ones then.
-use Rattle.std.proofs.Common.{◌≡◌, ◌∙◌, ◌⊎◌, inl, inr, ap, sym, subst, refl, ℕ, zero, suc, ◌+◌, ◌-◌, ◌<◌, ◌≤◌, ◌↔◌, add-one, true, false, List, [], ◌∷◌, ◌++◌, length, slice_get, slice_set, slice_index, arith}
+use Rattle.std.proofs.Common.{◌≡◌, ◌∙◌, inl, ap, sym, subst, refl, ℕ, zero, suc, ◌-◌, ◌<◌, ◌≤◌, ◌↔◌, add-one, true, false, List, [], ◌∷◌, ◌++◌, length, slice_get, slice_set, slice_index, arith}
 use Rattle.std.specs.List.Sorted.{IsPermutation}
 use Rattle.std.proofs.lemmas.List.Sorted.{IsPermutation-trans, IsPermutation-sym}
 use Rattle.std.specs.declared.option.Option.TheVariants.{Some}
@@ -11,10 +11,12 @@ use Rattle.tree_model.specs.Settling.{stands}
 use Rattle.object_tree.specs.Trees.{IsAt}
 use Rattle.object_tree.specs.Spreading.{condemned_one, Spreads, no_more, one_more, Covers, IsWhole}
 use Rattle.object_tree.proofs.KeepLemmas.{doomed_ascend}
-use Rattle.object_tree.proofs.ListedLemmas.{standing_there, stands_at, not_true, not_false, all_marked, Ascends, ascend_get, spread_permutes, listed_is}
+use Rattle.object_tree.proofs.ListedLemmas.{standing_there, stands_at, not_true, not_false, all_marked, ascend_get, spread_permutes, listed_is}
 use Rattle.object_tree.proofs.SpreadLemmas.{spread_is, spread_mark, spread_ordered, spread_on, spread_covers, spread_begins, mark_of, set_there}
 use Rattle.tree_model.proofs.DoomLemmas.{marks_doomed}
-use Rattle.object_tree.proofs.StepLemmas.{low_or_high, listed_there, same_listed}
+use Rattle.object_tree.specs.Ordering.{Ascends, AscendsBefore}
+use Rattle.object_tree.proofs.OrderLemmas.{longer}
+use Rattle.object_tree.proofs.StepLemmas.{listed_there, same_listed}
 
 -- an object that stands nowhere, or is condemned, changes nothing
 pub none_standing : (o : ObjNo) (xs : List Object) → IsOrdered 0 xs → stands xs o ≡ false → IsWhole xs → xs ≡ marked_from o [] xs
@@ -74,23 +76,22 @@ module _ (o : ObjNo) (xs ys zs : List Object) (ds es fs : List ObjNo) (ordered :
   permutes : IsPermutation fs (doomed_of zs)
   permutes = spread_permutes o xs zs fs (subst (λ (ns : List ObjNo). Spreads o xs ns zs fs) listed all_spreads)
 
-  -- what ascends from the last of the earlier ones on ascends
-  pub condemn_listed : ((k : ℕ) (a b : ObjNo) → length ds - 1 ≤ k → slice_get fs k ≡ Some a → slice_get fs (k + 1) ≡ Some b → a.0 ≤ b.0) → fs ≡ doomed_of zs
-  condemn_listed ascends = listed_is zs fs end_ordered permutes (λ k a b e f. by_place k a b e f (low_or_high (length ds) (k + 1)))
-    where
-      kept : (k : ℕ) (a : ObjNo) → k < length ds → slice_get fs k ≡ Some a → slice_get (doomed_of xs) k ≡ Some a
-      kept k a low e =
-          let was = listed_there ds k low in
-          let is : was.number ≡ a = same_listed fs k was.number a (spread_begins o xs ds zs fs all_spreads k was.number was.there) e in
-          ap (λ (ns : List ObjNo). slice_get ns k) (sym listed) ∙ was.there ∙ ap Some is
+  -- those that were listed before stand in front, in order
+  kept : (k : ℕ) (a : ObjNo) → k < length ds → slice_get fs k ≡ Some a → slice_get (doomed_of xs) k ≡ Some a
+  kept k a low e =
+      let was = listed_there ds k low in
+      let is : was.number ≡ a = same_listed fs k was.number a (spread_begins o xs ds zs fs all_spreads k was.number was.there) e in
+      ap (λ (ns : List ObjNo). slice_get ns k) (sym listed) ∙ was.there ∙ ap Some is
 
-      by_place : (k : ℕ) (a b : ObjNo) → slice_get fs k ≡ Some a → slice_get fs (suc k) ≡ Some b → (length ds ≤ k + 1) ⊎ (k + 1 < length ds) → a.0 ≤ b.0
-      by_place k a b e f (inl h) = ascends k a b (omega arith) e (ap (slice_get fs) (add-one k) ∙ f)
-      by_place k a b e f (inr h) = ascend_get 0 (doomed_of xs) k a b (doomed_ascend 0 xs ordered) (kept k a (omega arith) e) (kept (suc k) b (omega arith) f)
+  pub condemn_front : AscendsBefore (length ds) fs
+  condemn_front k a b low e f = ascend_get 0 (doomed_of xs) k a b (doomed_ascend 0 xs ordered) (kept k a (omega arith) e) (kept (suc k) b (omega arith) (ap (slice_get fs) (sym (add-one k)) ∙ f))
 
-  -- and so does what was put in order
+  pub condemn_longer : length es ≤ length fs
+  condemn_longer = longer o ys es zs fs rest
+
+  -- what was put in order is the list of the condemned
   pub condemn_sorted : (gs : List ObjNo) → IsPermutation fs gs → Ascends gs → gs ≡ doomed_of zs
-  condemn_sorted gs sorted ascends = listed_is zs gs end_ordered (IsPermutation-trans gs fs (doomed_of zs) (IsPermutation-sym fs gs sorted) permutes) ascends
+  condemn_sorted gs sorted ascends = listed_is zs gs end_ordered (IsPermutation-trans gs fs (doomed_of zs) (IsPermutation-sym fs gs sorted) permutes) (λ k a b e f. ascends k a b e (ap (slice_get gs) (add-one k) ∙ f))
 
   pub condemn_least : (x : Object) → Stands x xs → (is_marked zs x.number ≡ true) ↔ Doomed xs (Begins o) x
   condemn_least x stands = rw condemn_marks (marks_doomed o xs ordered x stands)

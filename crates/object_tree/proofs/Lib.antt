@@ -10,3 +10,4 @@ pub mod ListedLemmas
 pub mod StepLemmas
 pub mod CondemnLemmas
 pub mod WholeLemmas
+mod OrderLemmas

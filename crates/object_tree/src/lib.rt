@@ -4,6 +4,7 @@
 #![tactic(auto)]
 
 mod links;
+mod ordering;
 mod places;
 mod removing;
 mod spreading;

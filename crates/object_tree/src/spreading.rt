@@ -12,6 +12,7 @@ ghost use Rattle.object_tree.specs.Spreading.{Spreads, Covers, IsWhole, AllMarke
 ghost use Rattle.object_tree.specs.declared.links.Tie.TheVariants as by_tie;
 
 use crate::links::{Links, Tie, parent, told};
+use crate::ordering::put_in_order;
 use crate::places::{place, stands_in};
 use qml_base::ObjNo;
 use tree_model::Object;
@@ -161,18 +162,6 @@ fn spread(
     }
 }
 
-/// Whether the numbers ascend from the place on.
-fn ascends(numbers: &[ObjNo], from: usize) -> bool
-    ensures { result ≡ true → (k : ℕ) (a b : ObjNo) → from ≤ k → slice_get numbers.now k ≡ Some a → slice_get numbers.now (k + 1) ≡ Some b → a.0 ≤ b.0 }
-{
-    for i in from..numbers.len() {
-        if i > from && numbers[i - 1].0 > numbers[i].0 {
-            return false;
-        }
-    }
-    true
-}
-
 /// Marks the object of the number, if it is live, and all that is doomed with it, and lists them in the order of numbers.
 pub fn condemn(
     places: &[u32],
@@ -202,7 +191,5 @@ pub fn condemn(
     }
     mark_at(objects, doomed, place(places, o));
     spread(places, owned, made, objects, doomed, from);
-    if !ascends(doomed.as_slice(), from.saturating_sub(1)) {
-        doomed.sort_unstable();
-    }
+    put_in_order(doomed.as_mut_slice(), from);
 }

@@ -1,10 +1,15 @@
-use Rattle.std.proofs.Common.{◌∙◌, ap, sym, subst, refl, ◌+◌, length, slice_get, arith}
+use Rattle.std.proofs.Common.{◌∙◌, ap, sym, subst, refl, ◌+◌, List, [], ◌∷◌, length, slice_get, arith}
+use Rattle.std.proofs.lemmas.List.{length-append}
 use Rattle.std.proofs.lemmas.Option.{slice_get_within}
 use Rattle.object_tree.specs.declared.links.Tie.TheVariants as by_tie
 use Rattle.object_tree.specs.Spreading.{no_more, AllMarked, AllListed}
-use Rattle.object_tree.proofs.CondemnLemmas.{none_standing, standing, begins, begun_mark, begun_covered, condemn_marks, condemn_listed, condemn_sorted, condemn_least, none_least, all_spreads}
-use Rattle.object_tree.proofs.ListedLemmas.{all_marked, all_listed, sorted_ascends}
+use Rattle.object_tree.proofs.CondemnLemmas.{none_standing, standing, begins, begun_mark, begun_covered, condemn_marks, condemn_front, condemn_longer, condemn_sorted, condemn_least, none_least, all_spreads}
+use Rattle.object_tree.proofs.ListedLemmas.{all_marked, all_listed}
 use Rattle.object_tree.proofs.SpreadLemmas.{spread_placed, spread_ordered, spread_linked, spread_room, spread_marked, spread_listed, all_counted, some_unmarked}
+use Rattle.object_tree.proofs.MarkLemmas.{seam}
+use Rattle.std.specs.List.Sorted.{IsPermutation}
+use Rattle.std.proofs.lemmas.List.Sorted.{length_permutation}
+use Rattle.qml_base.specs.declared.numbers.ObjNo.{ObjNo}
 use Rattle.object_tree.proofs.spreading.condemn.Goals as goal
 
 pub returns-then-not-stands_in-clause-marks : goal.returns-then-not-stands_in-clause-marks
@@ -93,41 +98,25 @@ spread-requires-clause-covered c =
     let from = c.len-from.ensures in
     begun_covered c.args.o c.args.objects.now c.mark_at.new.objects c.args.doomed.now.items c.mark_at.new.doomed.items c.place.result s.x there s.number s.free (c.mark_at.ensures.objects s.x there) (c.mark_at.ensures.doomed s.x there) c.requires.ordered c.requires.whole c.requires.listed k p (omega arith) at
 
-pub returns-then-not-ascends-clause-marks : goal.returns-then-not-ascends-clause-marks
-returns-then-not-ascends-clause-marks c =
+pub returns-clause-marks : goal.returns-clause-marks
+returns-clause-marks c =
     let s = standing c.args.places.now c.args.objects.now c.args.o c.requires.placed c.requires.ordered (sym c.if-not-stands_in.ensures) in
     let there = ap (slice_get c.args.objects.now) c.place.ensures ∙ s.there in
     let first = begins c.args.o c.args.objects.now c.mark_at.new.objects c.args.doomed.now.items c.mark_at.new.doomed.items c.place.result s.x there s.number s.free (c.mark_at.ensures.objects s.x there) (c.mark_at.ensures.doomed s.x there) in
     let marked = begun_mark c.args.o c.args.objects.now c.mark_at.new.objects c.args.doomed.now.items c.mark_at.new.doomed.items c.place.result s.x there s.number s.free (c.mark_at.ensures.objects s.x there) (c.mark_at.ensures.doomed s.x there) c.requires.ordered in
     condemn_marks c.args.o c.args.objects.now c.mark_at.new.objects c.spread.new.objects c.args.doomed.now.items c.mark_at.new.doomed.items c.spread.new.doomed.items c.requires.ordered c.requires.listed first marked (c.spread.ensures.spreads c.args.o) c.spread.ensures.whole
 
-pub returns-else-not-ascends-clause-marks : goal.returns-else-not-ascends-clause-marks
-returns-else-not-ascends-clause-marks c =
+pub returns-clause-listed : goal.returns-clause-listed
+returns-clause-listed c =
     let s = standing c.args.places.now c.args.objects.now c.args.o c.requires.placed c.requires.ordered (sym c.if-not-stands_in.ensures) in
     let there = ap (slice_get c.args.objects.now) c.place.ensures ∙ s.there in
     let first = begins c.args.o c.args.objects.now c.mark_at.new.objects c.args.doomed.now.items c.mark_at.new.doomed.items c.place.result s.x there s.number s.free (c.mark_at.ensures.objects s.x there) (c.mark_at.ensures.doomed s.x there) in
     let marked = begun_mark c.args.o c.args.objects.now c.mark_at.new.objects c.args.doomed.now.items c.mark_at.new.doomed.items c.place.result s.x there s.number s.free (c.mark_at.ensures.objects s.x there) (c.mark_at.ensures.doomed s.x there) c.requires.ordered in
-    condemn_marks c.args.o c.args.objects.now c.mark_at.new.objects c.spread.new.objects c.args.doomed.now.items c.mark_at.new.doomed.items c.spread.new.doomed.items c.requires.ordered c.requires.listed first marked (c.spread.ensures.spreads c.args.o) c.spread.ensures.whole
-
-pub returns-then-not-ascends-clause-listed : goal.returns-then-not-ascends-clause-listed
-returns-then-not-ascends-clause-listed c =
-    let s = standing c.args.places.now c.args.objects.now c.args.o c.requires.placed c.requires.ordered (sym c.if-not-stands_in.ensures) in
-    let there = ap (slice_get c.args.objects.now) c.place.ensures ∙ s.there in
-    let first = begins c.args.o c.args.objects.now c.mark_at.new.objects c.args.doomed.now.items c.mark_at.new.doomed.items c.place.result s.x there s.number s.free (c.mark_at.ensures.objects s.x there) (c.mark_at.ensures.doomed s.x there) in
-    let marked = begun_mark c.args.o c.args.objects.now c.mark_at.new.objects c.args.doomed.now.items c.mark_at.new.doomed.items c.place.result s.x there s.number s.free (c.mark_at.ensures.objects s.x there) (c.mark_at.ensures.doomed s.x there) c.requires.ordered in
-    condemn_sorted c.args.o c.args.objects.now c.mark_at.new.objects c.spread.new.objects c.args.doomed.now.items c.mark_at.new.doomed.items c.spread.new.doomed.items c.requires.ordered c.requires.listed first marked (c.spread.ensures.spreads c.args.o) c.spread.ensures.whole c.sort_unstable.new.self.items c.sort_unstable.ensures.permutation (sorted_ascends c.sort_unstable.new.self.items c.sort_unstable.ensures.sorted)
-
-pub returns-else-not-ascends-clause-listed : goal.returns-else-not-ascends-clause-listed
-returns-else-not-ascends-clause-listed c =
-    let s = standing c.args.places.now c.args.objects.now c.args.o c.requires.placed c.requires.ordered (sym c.if-not-stands_in.ensures) in
-    let there = ap (slice_get c.args.objects.now) c.place.ensures ∙ s.there in
-    let first = begins c.args.o c.args.objects.now c.mark_at.new.objects c.args.doomed.now.items c.mark_at.new.doomed.items c.place.result s.x there s.number s.free (c.mark_at.ensures.objects s.x there) (c.mark_at.ensures.doomed s.x there) in
-    let marked = begun_mark c.args.o c.args.objects.now c.mark_at.new.objects c.args.doomed.now.items c.mark_at.new.doomed.items c.place.result s.x there s.number s.free (c.mark_at.ensures.objects s.x there) (c.mark_at.ensures.doomed s.x there) c.requires.ordered in
-    condemn_listed c.args.o c.args.objects.now c.mark_at.new.objects c.spread.new.objects c.args.doomed.now.items c.mark_at.new.doomed.items c.spread.new.doomed.items c.requires.ordered c.requires.listed first marked (c.spread.ensures.spreads c.args.o) c.spread.ensures.whole (λ k a b low e f.
-    let was = c.args.doomed.now.ok.0 in
-    let from = c.len-from.ensures in
-    let place = c.saturating_sub.ensures in
-    c.if-not-ascends.ensures refl k a b (omega arith) (ap (λ ns. slice_get ns k) c.as_slice.ensures.value ∙ e) (ap (λ ns. slice_get ns (k + 1)) c.as_slice.ensures.value ∙ f))
+    let moved = subst (λ (ns : List ObjNo). IsPermutation ns c.put_in_order.new.numbers) c.as_mut_slice.ensures.value c.put_in_order.ensures.permutation in
+    let same = length_permutation c.spread.new.doomed.items c.put_in_order.new.numbers moved in
+    let long = c.spread.new.doomed.ok.0 in
+    let whole = seam c.put_in_order.new.numbers c.spread.new.doomed.items c.spread.new.doomed.len (omega arith) in
+    whole ∙ condemn_sorted c.args.o c.args.objects.now c.mark_at.new.objects c.spread.new.objects c.args.doomed.now.items c.mark_at.new.doomed.items c.spread.new.doomed.items c.requires.ordered c.requires.listed first marked (c.spread.ensures.spreads c.args.o) c.spread.ensures.whole c.put_in_order.new.numbers moved c.put_in_order.ensures.ascends
 
 pub returns-then-not-stands_in-clause-least : goal.returns-then-not-stands_in-clause-least
 returns-then-not-stands_in-clause-least c =
@@ -137,34 +126,41 @@ pub returns-then-not-stands_in-clause-spread : goal.returns-then-not-stands_in-c
 returns-then-not-stands_in-clause-spread c =
     (c.args.doomed.now.items, no_more refl refl)
 
-pub returns-then-not-ascends-clause-least : goal.returns-then-not-ascends-clause-least
-returns-then-not-ascends-clause-least c =
+pub returns-clause-least : goal.returns-clause-least
+returns-clause-least c =
     let s = standing c.args.places.now c.args.objects.now c.args.o c.requires.placed c.requires.ordered (sym c.if-not-stands_in.ensures) in
     let there = ap (slice_get c.args.objects.now) c.place.ensures ∙ s.there in
     let first = begins c.args.o c.args.objects.now c.mark_at.new.objects c.args.doomed.now.items c.mark_at.new.doomed.items c.place.result s.x there s.number s.free (c.mark_at.ensures.objects s.x there) (c.mark_at.ensures.doomed s.x there) in
     let marked = begun_mark c.args.o c.args.objects.now c.mark_at.new.objects c.args.doomed.now.items c.mark_at.new.doomed.items c.place.result s.x there s.number s.free (c.mark_at.ensures.objects s.x there) (c.mark_at.ensures.doomed s.x there) c.requires.ordered in
     condemn_least c.args.o c.args.objects.now c.mark_at.new.objects c.spread.new.objects c.args.doomed.now.items c.mark_at.new.doomed.items c.spread.new.doomed.items c.requires.ordered c.requires.listed first marked (c.spread.ensures.spreads c.args.o) c.spread.ensures.whole
 
-pub returns-then-not-ascends-clause-spread : goal.returns-then-not-ascends-clause-spread
-returns-then-not-ascends-clause-spread c =
+pub returns-clause-spread : goal.returns-clause-spread
+returns-clause-spread c =
     let s = standing c.args.places.now c.args.objects.now c.args.o c.requires.placed c.requires.ordered (sym c.if-not-stands_in.ensures) in
     let there = ap (slice_get c.args.objects.now) c.place.ensures ∙ s.there in
     let first = begins c.args.o c.args.objects.now c.mark_at.new.objects c.args.doomed.now.items c.mark_at.new.doomed.items c.place.result s.x there s.number s.free (c.mark_at.ensures.objects s.x there) (c.mark_at.ensures.doomed s.x there) in
     let marked = begun_mark c.args.o c.args.objects.now c.mark_at.new.objects c.args.doomed.now.items c.mark_at.new.doomed.items c.place.result s.x there s.number s.free (c.mark_at.ensures.objects s.x there) (c.mark_at.ensures.doomed s.x there) c.requires.ordered in
     (c.spread.new.doomed.items, all_spreads c.args.o c.args.objects.now c.mark_at.new.objects c.spread.new.objects c.args.doomed.now.items c.mark_at.new.doomed.items c.spread.new.doomed.items c.requires.ordered c.requires.listed first marked (c.spread.ensures.spreads c.args.o) c.spread.ensures.whole)
 
-pub returns-else-not-ascends-clause-least : goal.returns-else-not-ascends-clause-least
-returns-else-not-ascends-clause-least c =
+pub put_in_order-requires-clause-within : goal.put_in_order-requires-clause-within
+put_in_order-requires-clause-within c =
     let s = standing c.args.places.now c.args.objects.now c.args.o c.requires.placed c.requires.ordered (sym c.if-not-stands_in.ensures) in
     let there = ap (slice_get c.args.objects.now) c.place.ensures ∙ s.there in
     let first = begins c.args.o c.args.objects.now c.mark_at.new.objects c.args.doomed.now.items c.mark_at.new.doomed.items c.place.result s.x there s.number s.free (c.mark_at.ensures.objects s.x there) (c.mark_at.ensures.doomed s.x there) in
     let marked = begun_mark c.args.o c.args.objects.now c.mark_at.new.objects c.args.doomed.now.items c.mark_at.new.doomed.items c.place.result s.x there s.number s.free (c.mark_at.ensures.objects s.x there) (c.mark_at.ensures.doomed s.x there) c.requires.ordered in
-    condemn_least c.args.o c.args.objects.now c.mark_at.new.objects c.spread.new.objects c.args.doomed.now.items c.mark_at.new.doomed.items c.spread.new.doomed.items c.requires.ordered c.requires.listed first marked (c.spread.ensures.spreads c.args.o) c.spread.ensures.whole
+    let was = c.args.doomed.now.ok.0 in
+    let from = c.len-from.ensures in
+    let one = ap length (c.mark_at.ensures.doomed s.x there) ∙ length-append c.args.doomed.now.items (s.x.number ∷ []) in
+    let longer = condemn_longer c.args.o c.args.objects.now c.mark_at.new.objects c.spread.new.objects c.args.doomed.now.items c.mark_at.new.doomed.items c.spread.new.doomed.items c.requires.ordered c.requires.listed first marked (c.spread.ensures.spreads c.args.o) c.spread.ensures.whole in
+    omega arith
 
-pub returns-else-not-ascends-clause-spread : goal.returns-else-not-ascends-clause-spread
-returns-else-not-ascends-clause-spread c =
+pub put_in_order-requires-clause-front : goal.put_in_order-requires-clause-front
+put_in_order-requires-clause-front c =
     let s = standing c.args.places.now c.args.objects.now c.args.o c.requires.placed c.requires.ordered (sym c.if-not-stands_in.ensures) in
     let there = ap (slice_get c.args.objects.now) c.place.ensures ∙ s.there in
     let first = begins c.args.o c.args.objects.now c.mark_at.new.objects c.args.doomed.now.items c.mark_at.new.doomed.items c.place.result s.x there s.number s.free (c.mark_at.ensures.objects s.x there) (c.mark_at.ensures.doomed s.x there) in
     let marked = begun_mark c.args.o c.args.objects.now c.mark_at.new.objects c.args.doomed.now.items c.mark_at.new.doomed.items c.place.result s.x there s.number s.free (c.mark_at.ensures.objects s.x there) (c.mark_at.ensures.doomed s.x there) c.requires.ordered in
-    (c.spread.new.doomed.items, all_spreads c.args.o c.args.objects.now c.mark_at.new.objects c.spread.new.objects c.args.doomed.now.items c.mark_at.new.doomed.items c.spread.new.doomed.items c.requires.ordered c.requires.listed first marked (c.spread.ensures.spreads c.args.o) c.spread.ensures.whole)
+    λ k a b low e f.
+    let was = c.args.doomed.now.ok.0 in
+    let from = c.len-from.ensures in
+    condemn_front c.args.o c.args.objects.now c.mark_at.new.objects c.spread.new.objects c.args.doomed.now.items c.mark_at.new.doomed.items c.spread.new.doomed.items c.requires.ordered c.requires.listed first marked (c.spread.ensures.spreads c.args.o) c.spread.ensures.whole k a b (omega arith) (ap (λ (ns : List ObjNo). slice_get ns k) (sym c.as_mut_slice.ensures.value) ∙ e) (ap (λ (ns : List ObjNo). slice_get ns (k + 1)) (sym c.as_mut_slice.ensures.value) ∙ f)
