@@ -1,7 +1,7 @@
 //! The rules that are built in: each in the cells of an Item that is a Repeater too.
 
 use crate::calls::{add, empty, held, settle};
-use crate::given::{Given, cell, cells};
+use crate::given::{Given, cell, content, new_cell};
 use qml_base::{ObjNo, Steps};
 use std::alloc::Global;
 use std::process::Abort;
@@ -27,11 +27,11 @@ fn item(o: u32, parent: Given, shown: bool, place: u32) -> Given {
 }
 
 fn item_cells(alloc: Global, o: u32, parent: Given, shown: bool) -> Result<Vec<NewCell>, Fail> {
-    let mut given = [Given::Null; 17];
+    let mut cells = Vec::new(alloc);
     for place in 0..17 {
-        given[place] = item(o, parent, shown, place as u32);
+        cells.push(new_cell(content(item(o, parent, shown, place))))?;
     }
-    Ok(cells(alloc, &given)?)
+    Ok(cells)
 }
 
 pub fn built_in_rules<L: Ledger>(
@@ -47,19 +47,11 @@ pub fn built_in_rules<L: Ledger>(
         item_cells(alloc, 2, Given::Object(1), true)?,
     )?;
     settle(alloc, &mut tree, steps)?;
-    for (object, place, wanted) in [
-        (1, 7, 0),
-        (1, 9, 1),
-        (2, 7, 0),
-        (2, 9, 1),
-        (2, 15, 3),
-        (2, 16, 5),
-    ] {
-        assert_eq!(rt;
-            held(&tree, cell(object, place)),
-            Some(wanted),
-            "at {object}.{place}"
-        );
-    }
+    assert_eq!(rt; held(&tree, cell(1, 7)), Some(0));
+    assert_eq!(rt; held(&tree, cell(1, 9)), Some(1));
+    assert_eq!(rt; held(&tree, cell(2, 7)), Some(0));
+    assert_eq!(rt; held(&tree, cell(2, 9)), Some(1));
+    assert_eq!(rt; held(&tree, cell(2, 15)), Some(3));
+    assert_eq!(rt; held(&tree, cell(2, 16)), Some(5));
     Ok(())
 }

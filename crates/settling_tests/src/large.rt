@@ -84,6 +84,18 @@ fn deep(alloc: Global) -> Result<Tree, Fail> {
     Ok(tree)
 }
 
+/// Adds one more object, that none owns.
+fn add_one(tree: &mut Tree) -> Result<ObjNo, AddFault> {
+    tree.add(None, None)
+}
+
+/// How many objects are condemned once this one is.
+fn condemn(tree: &mut Tree, o: ObjNo) -> usize {
+    tree.condemn(o);
+    tree.doomed().len()
+}
+
+/// Removes the object if it is condemned.
 fn remove(tree: &mut Tree, o: ObjNo) -> bool {
     if !tree.is_condemned(o) {
         return false;
@@ -92,20 +104,26 @@ fn remove(tree: &mut Tree, o: ObjNo) -> bool {
     true
 }
 
+/// How many objects are live once all that are condemned are removed, and whether the first one is.
+fn remove_doomed(tree: &mut Tree) -> (u32, bool) {
+    tree.remove_doomed();
+    (tree.live(), tree.is_live(ObjNo(1)))
+}
+
+fn owner_of(tree: &Tree, o: ObjNo) -> Option<ObjNo> {
+    tree.owner(o)
+}
+
 fn deep_trees_go(rt: &impl Abort, alloc: Global) -> Result<(), Fail> {
     let mut tree = deep(alloc)?;
-    let full = tree.add(None, None).err();
-    assert_eq!(rt; full, Some(AddFault::Full { live: OBJECTS }));
-    assert_eq!(rt; tree.owner(ObjNo(OBJECTS)), Some(ObjNo(OBJECTS - 1)));
-    tree.condemn(ObjNo(OBJECTS));
-    assert_eq!(rt; tree.doomed(), [ObjNo(OBJECTS)].as_slice());
-    assert_eq!(rt; remove(&mut tree, ObjNo(OBJECTS)), true);
-    assert_eq!(rt; tree.add(None, None)?, ObjNo(OBJECTS + 1));
-    tree.condemn(ObjNo(1));
-    assert_eq!(rt; tree.doomed().len(), OBJECTS as usize - 1);
-    tree.remove_doomed();
-    assert_eq!(rt; tree.live(), 1);
-    assert_eq!(rt; tree.is_live(ObjNo(1)), false);
+    let last = ObjNo(OBJECTS);
+    assert_eq!(rt; add_one(&mut tree), Err(AddFault::Full { live: OBJECTS }));
+    assert_eq!(rt; owner_of(&tree, last), Some(ObjNo(OBJECTS - 1)));
+    assert_eq!(rt; condemn(&mut tree, last), 1);
+    assert_eq!(rt; remove(&mut tree, last), true);
+    assert_eq!(rt; add_one(&mut tree), Ok(ObjNo(OBJECTS + 1)));
+    assert_eq!(rt; condemn(&mut tree, ObjNo(1)), OBJECTS as usize - 1);
+    assert_eq!(rt; remove_doomed(&mut tree), (1, false));
     Ok(())
 }
 

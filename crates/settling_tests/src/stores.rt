@@ -50,16 +50,17 @@ fn hold(store: &mut Store, c: CellNo, n: u32) -> Option<(Value, Outcome)> {
     Some((before, store.outcome(c)))
 }
 
-fn stores(rt: &impl Abort, alloc: Global) -> Result<(), Fail> {
+/// A store of two cells of object 1, the second of which held a reference to object 2 and contained one.
+fn scrubbed(alloc: Global) -> Result<Store, Fail> {
     let mut store = Store::new(alloc);
+    let content = deep_reference(alloc)?;
+    let held = deep_reference(alloc)?;
     let mut cells = Vec::new(alloc);
     cells.push(NewCell {
         kind: PropKind::Int,
         content: Content::Plain(number(1)),
         held: Value::Undefined,
     })?;
-    let content = deep_reference(alloc)?;
-    let held = deep_reference(alloc)?;
     cells.push(NewCell {
         kind: PropKind::Var,
         content: Content::Plain(content),
@@ -67,19 +68,27 @@ fn stores(rt: &impl Abort, alloc: Global) -> Result<(), Fail> {
     })?;
     store.add_cells(ObjNo(1), cells)?;
     store.scrub([ObjNo(2)].as_slice());
-    assert_eq!(rt; store.next_scrubbed(0), Some((1, cell(1, 1))));
-    assert_eq!(rt; store.next_scrubbed(2), None);
-    assert_eq!(rt;
-        has_null(&store, cell(1, 1), &Text::from_latin1(alloc, b"a")?),
-        true
-    );
+    Ok(store)
+}
+
+fn noted(store: &Store, from: usize) -> Option<(usize, CellNo)> {
+    store.next_scrubbed(from)
+}
+
+fn clear_notes(store: &mut Store) {
     store.clear_scrubbed();
-    assert_eq!(rt; store.next_scrubbed(0), None);
+}
+
+fn stores(rt: &impl Abort, alloc: Global) -> Result<(), Fail> {
+    let name = Text::from_latin1(alloc, b"a")?;
+    let mut store = scrubbed(alloc)?;
+    assert_eq!(rt; noted(&store, 0), Some((1, cell(1, 1))));
+    assert_eq!(rt; noted(&store, 2), None);
+    assert_eq!(rt; has_null(&store, cell(1, 1), &name), true);
+    clear_notes(&mut store);
+    assert_eq!(rt; noted(&store, 0), None);
     let held = hold(&mut store, cell(1, 0), 4);
-    assert_eq!(rt;
-        matches!(held, Some((Value::Undefined, Outcome::Loop))),
-        true
-    );
+    assert!(rt; matches!(held, Some((Value::Undefined, Outcome::Loop))));
     Ok(())
 }
 
