@@ -5,5 +5,5 @@ pub mod TestLemmas
 mod ThroughLemmas
 mod FoundLemmas
 pub mod ProgramLemmas
-mod ToldLemmas
-mod CountLemmas
+pub mod ToldLemmas
+pub mod CountLemmas

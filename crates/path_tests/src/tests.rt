@@ -10,6 +10,7 @@ use path_ends::{
     PathEnd, SeenObject, UnitAliases, UnitEnds, UnitIds, alias_ends, end_of_path, unit_aliases,
 };
 use program_names::Fault;
+use program_paths::{UnitSource, program_paths};
 use program_tables::{BuiltInNames, Names, UnitRow, unit_names};
 use qml_base::{LoadCause, Place};
 use qml_text::Text;
@@ -237,4 +238,42 @@ fn what_a_component_holds_has_ids_of_its_own(rt: HostRuntime) -> Result<(), Fail
     assert!(rt; inner == Some(1));
     assert!(rt; outer == None);
     Ok(())
+}
+
+#[test]
+fn paths_of_a_program_are_followed_by_its_rows(rt: HostRuntime) -> Result<(), Fail> {
+    let alloc = rt.alloc();
+    let mut rows = Vec::new(alloc);
+    rows.push(id(alloc, 0, b"r")?)?;
+    rows.push(alias(alloc, b"a", b"r", &[b"width"])?)?;
+    let item = TypeRef::Builtin(TypeNo::Item);
+    let mut units = Vec::new(alloc);
+    units.push(unit_names(alloc, &[item], &rows)?)?;
+    let names = Names {
+        built_in: BuiltInNames::new(alloc)?,
+        units,
+    };
+    let mut objects = Vec::new(alloc);
+    objects.push(ObjectRow { node: 0, row: None })?;
+    let mut sources = Vec::new(alloc);
+    sources.push(UnitSource { objects, rows })?;
+    let mut base = None;
+    if let Some(paths) = program_paths(alloc, &names, &sources)? {
+        base = end_of_alias(alloc, &names, &paths.ends)?;
+    }
+    assert!(rt; base == Some(0));
+    Ok(())
+}
+
+/// The object of whose int the alias `a` of the first document's root is.
+fn end_of_alias(alloc: Global, names: &Names, ends: &[UnitEnds]) -> Result<Option<usize>, Fail> {
+    let mut path = Vec::new(alloc);
+    path.push(Text::from_utf8(alloc, b"a")?)?;
+    let root = PathEnd::Object(SeenObject {
+        holder: None,
+        document: 0,
+        object: 0,
+    });
+    let end = end_of_path(alloc, names, ends, root, &path)?;
+    Ok(base_of_int(&end))
 }
