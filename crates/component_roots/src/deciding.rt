@@ -1,6 +1,7 @@
 //! What objects decide by what they are written as.
 
-ghost use Rattle.std.specs.Prelude.{◌≡◌, ◌+◌, length, IfOk};
+ghost use Rattle.std.specs.Prelude.{◌≡◌, ◌+◌, Some, length, IfOk};
+ghost use Rattle.program_tables.specs.declared.names.DefaultPlace.TheVariants.{BuiltIn};
 ghost use Rattle.program_tables.specs.Defaults.{default_at};
 ghost use Rattle.component_roots.specs.Deciding as s;
 
@@ -241,30 +242,32 @@ fn by_place(
                 row: _,
             },
         ) => Ok(None),
-        Some(
-            DefaultPlace::BuiltIn {
-                type_no,
-                member: DefaultMember::Property(place),
-            },
-        ) => by_cell(alloc, names, document, object, owner, type_no, place),
-        Some(
-            DefaultPlace::BuiltIn {
-                type_no: _,
-                member: DefaultMember::Children,
-            },
-        ) => Ok(Some(false)),
-        Some(
-            DefaultPlace::BuiltIn {
-                type_no: _,
-                member: DefaultMember::Held,
-            },
-        ) => Ok(Some(true)),
-        Some(
-            DefaultPlace::BuiltIn {
-                type_no: _,
-                member: DefaultMember::Rows,
-            },
-        ) => Ok(Some(false)),
+        Some(DefaultPlace::BuiltIn { type_no, member }) => by_default_member(
+            alloc, names, document, object, owner, type_no, member,
+        ),
+    }
+}
+
+/// What a child decides, by where a built-in type says that it goes.
+fn by_default_member(
+    alloc: Global,
+    names: &Names,
+    document: usize,
+    object: usize,
+    owner: usize,
+    type_no: TypeNo,
+    member: DefaultMember,
+) -> Result<Option<bool>, NoMemory>
+    ensures { IfOk result (λ b.
+        b ≡ s.by_default names.now.units.items document object owner (Some (BuiltIn type_no member))) }
+{
+    match member {
+        DefaultMember::Property(place) => {
+            by_cell(alloc, names, document, object, owner, type_no, place)
+        }
+        DefaultMember::Children => Ok(Some(false)),
+        DefaultMember::Held => Ok(Some(true)),
+        DefaultMember::Rows => Ok(Some(false)),
     }
 }
 
