@@ -1,4 +1,4 @@
-//! Evaluates expressions over a plain view, and says what each comes to. With the word `speed` each is evaluated a million
+//! Evaluates expressions over a plain view, and says what each comes to. With the word `speed` each is evaluated many
 //! times, and the processor's time of one is told. It is no part of the product.
 #![tactic(auto)]
 
@@ -32,8 +32,65 @@ const HOME: Home = Home {
     author: ObjNo(1),
 };
 
-/// What is evaluated.
-const SOURCES: [&str; 4] = ["a + 1", "f ? a : 1", "first(2, 3)", "'ab' + a"];
+/// What is evaluated: a source, the body of the function `second` with the parameter `n`, and how often.
+#[derive(Clone, Copy)]
+struct Case {
+    source: &'static str,
+    body: &'static str,
+    often: u32,
+}
+
+/// A loop of ten turns.
+const LOOP: &str = "let sum = 0; for (let i = 0; i < n; i++) { sum += i } return sum";
+
+/// Ten comparisons of numbers.
+const NUMBERS: &str =
+    "1 < 2; 1 < 2; 1 < 2; 1 < 2; 1 < 2; 1 < 2; 1 < 2; 1 < 2; 1 < 2; 1 < 2; return n";
+
+/// Ten comparisons of a local.
+const LOCALS: &str =
+    "n < n; n < n; n < n; n < n; n < n; n < n; n < n; n < n; n < n; n < n; return n";
+
+/// The locals that these have by name and the numbers haven't.
+const LOCALS_MORE: u64 = 20;
+
+const CASES: [Case; 7] = [
+    Case {
+        source: "a + 1",
+        body: "return n",
+        often: 1_000_000,
+    },
+    Case {
+        source: "f ? a : b",
+        body: "return n",
+        often: 1_000_000,
+    },
+    Case {
+        source: "'ab' + a",
+        body: "return n",
+        often: 1_000_000,
+    },
+    Case {
+        source: "first(2, 3)",
+        body: "return n",
+        often: 100_000,
+    },
+    Case {
+        source: "second(10)",
+        body: LOOP,
+        often: 100_000,
+    },
+    Case {
+        source: "second(11)",
+        body: NUMBERS,
+        often: 100_000,
+    },
+    Case {
+        source: "second(12)",
+        body: LOCALS,
+        often: 100_000,
+    },
+];
 
 /// The tokens of a source.
 fn tokens(alloc: Global, source: &str) -> Option<Vec<Token>> {
@@ -73,12 +130,12 @@ fn function(alloc: Global, parameters: &[&str], source: &str) -> Option<Function
     })
 }
 
-/// The text of an expression, with two functions.
-fn text(alloc: Global, source: &str) -> Option<OneText> {
+/// The text of an expression, with two functions, of which the second has this body.
+fn text(alloc: Global, source: &str, body: &str) -> Option<OneText> {
     let found = tokens(alloc, source)?;
     let (tree, _end) = parse_expr(alloc, &found, 0).ok()?;
     let first = function(alloc, &["x", "y"], "let z = x * y; return z + 1")?;
-    let second = function(alloc, &["n"], "return n")?;
+    let second = function(alloc, &["n"], body)?;
     Some(OneText::of(tree, first, second))
 }
 
@@ -108,50 +165,57 @@ fn evaluated<L: Ledger>(
     values
 }
 
-/// Evaluates an expression, and tells how often it came to a value, and the time of one where that is asked for.
+/// Evaluates an expression, tells how often it came to a value, and gives the time of one, which it tells where that is asked for.
 fn tell<L: Ledger>(
     rt: &HostRuntime,
-    source: &str,
-    count: u32,
+    case: Case,
     timed: bool,
     steps: &mut Steps<L>,
-) -> io::Result<()> {
+) -> io::Result<u64> {
     let alloc = rt.alloc();
-    let Some(code) = text(alloc, source) else {
-        return println!(rt; "{source}: no memory");
+    let source = case.source;
+    let Some(code) = text(alloc, source, case.body) else {
+        println!(rt; "{source}: no memory")?;
+        return Ok(0);
     };
     let view = Plain {
         f: Value::Bool(true),
         a: Value::Num(Num::small(4)),
         rows: Value::Null,
     };
+    let count = if timed { case.often } else { 10 };
     let begun = nanos(rt)?;
     let values = evaluated(alloc, &code, &view, count, steps);
     let took = nanos(rt)?.saturating_sub(begun) / u64::from(count.max(1));
     if timed {
-        println!(rt; "{source}: {values} values, {took} nanoseconds each")
+        println!(rt; "{source}: {values} values, {took} nanoseconds each")?;
     } else {
-        println!(rt; "{source}: {values} values")
+        println!(rt; "{source}: {values} values")?;
     }
+    Ok(took)
 }
 
-fn measure<L: Ledger>(rt: &HostRuntime, count: u32, timed: bool, blank: Blank) -> io::Result<()>
+/// Tells of each case, and what a local by its name takes more than a number.
+fn measure<L: Ledger>(rt: &HostRuntime, timed: bool, blank: Blank) -> io::Result<()>
     requires name { blank.name ≡ L.name }
     requires parts { blank.parts ≡ L.parts }
     requires some { 0 < L.parts }
 {
     let mut steps = Steps::<L>::new(blank);
-    for source in SOURCES {
-        tell(rt, source, count, timed, &mut steps)?;
+    let mut before = 0;
+    let mut last = 0;
+    for case in CASES {
+        before = last;
+        last = tell(rt, case, timed, &mut steps)?;
+    }
+    if timed {
+        let more = last.saturating_sub(before) / LOCALS_MORE;
+        println!(rt; "a local by its name: {more} nanoseconds more than a number")?;
     }
     Ok(())
 }
 
 fn main(rt: HostRuntime) -> io::Result<()> {
     let timed = env::args(&rt)?.skip(1).next().is_some();
-    if timed {
-        measure::<Brand>(&rt, 1_000_000, true, Blank::new(1))
-    } else {
-        measure::<Brand>(&rt, 10, false, Blank::new(1))
-    }
+    measure::<Brand>(&rt, timed, Blank::new(1))
 }
