@@ -8,8 +8,8 @@ ghost use Rattle.program_names.specs.Names.{changed as changed_name};
 ghost use Rattle.instance_plans.specs.NamesMade.{hidden_cell as hidden_for};
 ghost use Rattle.instance_names.specs.Names as s;
 
-use qml_base::{CellNo, Found, NoMemory, ObjNo};
 use name_table::NameTable;
+use qml_base::{CellNo, Found, NoMemory, ObjNo};
 use qml_text::{NoMemory as TextMemory, Text, TextBuilder};
 use qml_types::{Cell, Method, Signal, TypeNo, own_cells, own_methods, own_signals};
 use std::alloc::Global;

@@ -1,8 +1,8 @@
 //! That names are put where there is memory.
 
 use crate::put_builtin;
-use qml_base::{Found, ObjNo};
 use name_table::NameTable;
+use qml_base::{Found, ObjNo};
 use qml_text::Text;
 use qml_types::TypeNo;
 use std::test::Fail;
