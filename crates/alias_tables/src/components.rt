@@ -47,7 +47,7 @@ fn begins_at(begins: &[bool], object: usize) -> bool
     }
 }
 
-fn root_at(roots: &[usize], object: usize) -> usize
+pub(crate) fn root_at(roots: &[usize], object: usize) -> usize
     ensures { result ≡ s.root_at roots.now object }
 {
     match roots.get(object) {

@@ -1,0 +1,2 @@
+pub mod BadAliases
+pub mod Targets

@@ -1,0 +1,5 @@
+//! Tests of where paths end.
+#![tactic(auto)]
+
+#[cfg(test)]
+mod tests;
