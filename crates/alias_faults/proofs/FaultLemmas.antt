@@ -8,7 +8,7 @@ use Rattle.std.proofs.lemmas.List.{map-append}
 use Rattle.qml_syntax.specs.Tree.{Units}
 use Rattle.qml_syntax.specs.Nodes.{Table}
 use Rattle.program_names.specs.declared.fault.Fault.{Fault}
-use Rattle.program_names.specs.Written.{Row}
+use Rattle.program_names.specs.Written.{OwnedMember}
 use Rattle.program_names.specs.Loaded.{Program, unit_at}
 use Rattle.program_names.specs.Components.{Roots}
 use Rattle.program_names.specs.PathMeanings.{end_of_alias}
@@ -101,11 +101,11 @@ module _ (p : Program) (roots : Roots) (us : List UnitNames) (ids : List UnitIds
       by_target None i = absurd (false≢true (ap is_some i))
       by_target (Some x) i = sym (ap (object_of 0) i)
 
-  all_rows : (n : ℕ) (grouping : List Bool) (paths : List (List Units)) (own : List (Option Alias)) (rows : List UnitRow) (ws : List Row)
+  all_rows : (n : ℕ) (grouping : List Bool) (paths : List (List Units)) (own : List (Option Alias)) (rows : List UnitRow) (ws : List OwnedMember)
       → RowsSay p d t paths rows ws → grouping ≡ map is_filled paths → map said own ≡ aliases_told grouping rows
       → ((k : ℕ) (a : Option Alias) → slice_get own k ≡ Some a → joined (Some a) ≡ alias_in aliases d (n + k))
-      → ((k : ℕ) (w : Row) → slice_get ws k ≡ Some w → is_there us d w.object ≡ true)
-      → bad_rows known d n own ≡ flat_map (λ (w : Row). bad_alias p roots d w.object w.member) ws
+      → ((k : ℕ) (w : OwnedMember) → slice_get ws k ≡ Some w → is_there us d w.object ≡ true)
+      → bad_rows known d n own ≡ flat_map (λ (w : OwnedMember). bad_alias p roots d w.object w.member) ws
   all_rows n grouping paths [] [] [] s e i k h = refl
   all_rows n grouping paths (a ∷ own) [] ws s e i k h = absurd (too_long i)
     where

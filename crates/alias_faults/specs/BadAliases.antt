@@ -3,7 +3,7 @@ use Rattle.std.specs.Prelude.{◌≡◌, ℕ, suc, List, [], ◌∷◌, ◌++◌
 use Rattle.std.specs.List.{flat_map}
 use Rattle.qml_base.specs.declared.numbers.Place.{Place}
 use Rattle.qml_base.specs.declared.load_cause.LoadCause.TheVariants as cause
-use Rattle.program_names.specs.Written.{WrittenMember, an_alias, Row}
+use Rattle.program_names.specs.Written.{WrittenMember, an_alias, OwnedMember}
 use Rattle.program_names.specs.Loaded.{Program, unit_at}
 use Rattle.program_names.specs.Components.{Roots}
 use Rattle.program_names.specs.PathMeanings.{PathEnd, at_nothing, end_of_alias}
@@ -35,8 +35,8 @@ bad_alias p roots d o _ = []
 
 -- those of a document's members in the order of writing
 abbrev pub bad_written : Program → Roots → ℕ → Faults
-bad_written p roots d = flat_map (λ (r : Row). bad_alias p roots d r.object r.member) (unit_at p d).rows
+bad_written p roots d = flat_map (λ (r : OwnedMember). bad_alias p roots d r.object r.member) (unit_at p d).rows
 
 -- the objects of a document's rows are there
 abbrev pub AreThere : Program → List UnitNames → ℕ → Type 0
-AreThere p us d = (r : Row) (k : ℕ) → Path (Option Row) (slice_get (unit_at p d).rows k) (Some r) → is_there us d r.object ≡ true
+AreThere p us d = (r : OwnedMember) (k : ℕ) → Path (Option OwnedMember) (slice_get (unit_at p d).rows k) (Some r) → is_there us d r.object ≡ true

@@ -9,7 +9,7 @@ use Rattle.std.proofs.lemmas.List.{map-append}
 use Rattle.qml_syntax.specs.Tree.{Units}
 use Rattle.qml_syntax.specs.Nodes.{Table}
 use Rattle.name_table.specs.Named.{under, put}
-use Rattle.program_names.specs.Written.{WrittenMember, an_id, Row}
+use Rattle.program_names.specs.Written.{WrittenMember, an_id, OwnedMember}
 use Rattle.program_names.specs.Loaded.{Program, unit_at}
 use Rattle.program_names.specs.Components.{Roots, root_of, is_known, Id, id_in}
 use Rattle.document_rows.specs.WholePaths.{path_at}
@@ -62,7 +62,7 @@ abbrev with_id : ℕ → WrittenMember → List Id → List Id
 with_id o (an_id word name at) rest = record { word = word; name = name; at = at; object = o } ∷ rest
 with_id o w rest = rest
 
-abbrev ids_of_rows : List Row → List Id
+abbrev ids_of_rows : List OwnedMember → List Id
 ids_of_rows [] = []
 ids_of_rows (r ∷ rest) = with_id r.object r.member (ids_of_rows rest)
 
@@ -164,14 +164,14 @@ given_there tables k o c None name h = or_none (id_found tables c name)
     or_none (Some x) = refl
 given_there tables k o c (Some n) name h = put_there tables k n o c name h
 
-abbrev Knows : Program → Roots → ℕ → List ℕ → List Row → Type 0
-Knows p roots d numbers ws = (k : ℕ) (w : Row) → slice_get ws k ≡ Some w → (root_at numbers w.object ≡ root_of p roots d w.object) × (is_known p roots d w.object ≡ true)
+abbrev Knows : Program → Roots → ℕ → List ℕ → List OwnedMember → Type 0
+Knows p roots d numbers ws = (k : ℕ) (w : OwnedMember) → slice_get ws k ≡ Some w → (root_at numbers w.object ≡ root_of p roots d w.object) × (is_known p roots d w.object ≡ true)
 
 or_end : (x : Option ℕ) → x ≡ option_or x None
 or_end None = refl
 or_end (Some x) = refl
 
-all_rows : (p : Program) (roots : Roots) (d c : ℕ) (name : Units) (t : Table) (numbers : List ℕ) (grouping : List Bool) (paths : List (List Units)) (rows : List UnitRow) (ws : List Row) (tables : List Ids)
+all_rows : (p : Program) (roots : Roots) (d c : ℕ) (name : Units) (t : Table) (numbers : List ℕ) (grouping : List Bool) (paths : List (List Units)) (rows : List UnitRow) (ws : List OwnedMember) (tables : List Ids)
     → RowsSay p d t paths rows ws → grouping ≡ map is_filled paths → Knows p roots d numbers ws → c < length tables
     → id_found (ids_added numbers grouping rows tables) c name ≡ option_or (id_found tables c name) (first_among p roots d c name (ids_of_rows ws))
 all_rows p roots d c name t numbers grouping paths [] [] tables s e k l = or_end (id_found tables c name)

@@ -3,7 +3,7 @@ use Rattle.std.specs.Prelude.{◌≡◌, ℕ, zero, suc, Bool, true, false, ◌|
 use Rattle.std.specs.Option.{option_and_then}
 use Rattle.name_table.specs.Named.{under, put}
 use Rattle.qml_syntax.specs.Tree.{Units}
-use Rattle.program_names.specs.Written.{Row}
+use Rattle.program_names.specs.Written.{OwnedMember}
 use Rattle.program_names.specs.Loaded.{Program, unit_at}
 use Rattle.program_names.specs.Components.{Roots, root_of, is_known}
 use Rattle.document_members.specs.declared.member.Member.{Member}
@@ -48,5 +48,5 @@ id_found tables component name = option_and_then (λ (ids : Ids). under ids name
 
 -- The roots are those of the objects of a document's rows, and of all it is known which objects begin components.
 abbrev pub KnowsRoots : Program → Roots → ℕ → List ℕ → Type 0
-KnowsRoots p roots d numbers = (k : ℕ) (w : Row) → slice_get (unit_at p d).rows k ≡ Some w →
+KnowsRoots p roots d numbers = (k : ℕ) (w : OwnedMember) → slice_get (unit_at p d).rows k ≡ Some w →
     (root_at numbers w.object ≡ root_of p roots d w.object) × (is_known p roots d w.object ≡ true)

@@ -16,7 +16,7 @@ use Rattle.document_rows.specs.WrittenObjects.{Placed, placed_behind, role_in, r
 use Rattle.document_rows.proofs.RoleLemmas.{objects_by_rows}
 use Rattle.document_members.specs.declared.member.Member.{Member}
 use Rattle.document_members.specs.declared.member.Member.TheVariants as m
-use Rattle.document_members.specs.Members.{written_in, Says, Reads, ReadsAll}
+use Rattle.document_members.specs.Members.{written_in, Says, ReadsMember, ReadsMembers}
 use Rattle.program_tables.specs.declared.names.UnitNames.{UnitNames}
 use Rattle.program_tables.specs.declared.building.UnitRow.{UnitRow}
 use Rattle.program_tables.specs.RowsSay.{row_of, member_of_row}
@@ -156,11 +156,11 @@ map_long : {A B : Type 0} (f : A → B) (xs : List A) → length (map f xs) ≡ 
 map_long f [] = refl
 map_long f (x ∷ xs) = ap suc (map_long f xs)
 
-read_at : (t : Table) (rs : List MemberRow) (ms : List Member) → ReadsAll t rs ms → (k : ℕ) (r : MemberRow) (y : Member) → slice_get rs k ≡ Some r → slice_get ms k ≡ Some y → Reads t r.node y
+read_at : (t : Table) (rs : List MemberRow) (ms : List Member) → ReadsMembers t rs ms → (k : ℕ) (r : MemberRow) (y : Member) → slice_get rs k ≡ Some r → slice_get ms k ≡ Some y → ReadsMember t r.node y
 read_at t [] [] h k r y i j = none_some r i
 read_at t [] (n ∷ ms) h k r y i j = absurd h
 read_at t (q ∷ rs) [] h k r y i j = absurd h
-read_at t (q ∷ rs) (n ∷ ms) h zero r y i j = subst (λ z. Reads t r.node z) (ap (λ v. unwrap_or v y) j) (subst (λ (z : MemberRow). Reads t z.node n) (ap (λ v. unwrap_or v r) i) h.0)
+read_at t (q ∷ rs) (n ∷ ms) h zero r y i j = subst (λ z. ReadsMember t r.node z) (ap (λ v. unwrap_or v y) j) (subst (λ (z : MemberRow). ReadsMember t z.node n) (ap (λ v. unwrap_or v r) i) h.0)
 read_at t (q ∷ rs) (n ∷ ms) h (suc k) r y i j = read_at t rs ms h.1 k r y i j
 
 abbrev role_of : Option (TypeName × WrittenAs) → WrittenAs
@@ -173,7 +173,7 @@ role_there (w ∷ ws) zero = refl
 role_there (w ∷ ws) (suc o) = role_there ws o
 
 module _ (p : Program) (us : List UnitNames) (d : ℕ) (file : File) (t : Table) (objects : List ObjectRow) (rows : List UnitRow) (all : AreRows t objects (map row_of rows))
-    (same : unit_at p d ≡ unit_of file (is_document (document all.imports all.root))) (read : ReadsAll t (map row_of rows) (map member_of_row rows)) where
+    (same : unit_at p d ≡ unit_of file (is_document (document all.imports all.root))) (read : ReadsMembers t (map row_of rows) (map member_of_row rows)) where
   abbrev placed : List Placed
   placed = placed_behind [] (map (member_entry t) (map row_of rows))
 

@@ -8,7 +8,7 @@ use Rattle.std.proofs.lemmas.Bool.{false≢true}
 use Rattle.std.proofs.lemmas.List.{length-append}
 use Rattle.qml_syntax.specs.Tree.{Units}
 use Rattle.qml_syntax.specs.Nodes.{Table}
-use Rattle.program_names.specs.Written.{WrittenAs, as_root, as_child, as_value, Row}
+use Rattle.program_names.specs.Written.{WrittenAs, as_root, as_child, as_value, OwnedMember}
 use Rattle.program_names.specs.Reading.{File, Source}
 use Rattle.program_names.specs.Loaded.{Program, unit_at, unit_of, object_at}
 use Rattle.program_names.specs.Components.{IsRoot, Roots, is_root_at, owner, root_of}
@@ -219,7 +219,7 @@ module _ (p : Program) (us : List UnitNames) (d : ℕ) (made : UnitIds) (rows : 
       below r o n h g = omega arith
 
   pub says_ids_of : (ids : List UnitIds) (unit : UnitNames) (t : Table) → RowsSay p d t [] rows (unit_at p d).rows → length objects ≡ length unit.objects.items
-      → ((k : ℕ) (w : Row) → slice_get (unit_at p d).rows k ≡ Some w → w.object < N) → slice_get ids d ≡ Some made → SaysIds p (roots_of p) us ids d unit
+      → ((k : ℕ) (w : OwnedMember) → slice_get (unit_at p d).rows k ≡ Some w → w.object < N) → slice_get ids d ≡ Some made → SaysIds p (roots_of p) us ids d unit
   says_ids_of ids unit t says long range kept = record {
     tree = t;
     rows = rows;
@@ -235,7 +235,7 @@ module _ (p : Program) (us : List UnitNames) (d : ℕ) (made : UnitIds) (rows : 
 
 pub says_ids : (p : Program) (us : List UnitNames) (ids : List UnitIds) (d : ℕ) (unit : UnitNames) (made : UnitIds) (t : Table) (rows : List UnitRow) (objects : List ObjectRow) (file : File) (source : Source)
     → Stands p us → unit_at p d ≡ unit_of file source → RowsSay p d t [] rows (unit_at p d).rows → ObjectsSay p us d rows objects → length objects ≡ length unit.objects.items
-    → ((k : ℕ) (w : Row) → slice_get (unit_at p d).rows k ≡ Some w → w.object < length (unit_at p d).objects)
+    → ((k : ℕ) (w : OwnedMember) → slice_get (unit_at p d).rows k ≡ Some w → w.object < length (unit_at p d).objects)
     → slice_get ids d ≡ Some made → AreIds us d rows objects (Some made) → SaysIds p (roots_of p) us ids d unit
 says_ids p us ids d unit made t rows objects file source stands same says written long range kept are =
     says_ids_of p us d made rows objects file source stands same written are ids unit t says long range kept

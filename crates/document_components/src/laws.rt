@@ -2,7 +2,7 @@
 
 ghost use Rattle.std.specs.Prelude.{◌≡◌, ◌<◌, ℕ, Some, List, [], length, slice_get};
 ghost use Rattle.qml_syntax.specs.Nodes.{Table};
-ghost use Rattle.program_names.specs.Written.{Row};
+ghost use Rattle.program_names.specs.Written.{OwnedMember};
 ghost use Rattle.program_names.specs.Reading.{File, Source};
 ghost use Rattle.program_names.specs.Loaded.{Program, unit_at, unit_of};
 ghost use Rattle.program_names.specs.ComponentRoots.{roots_of};
@@ -23,7 +23,7 @@ pub fn components_are_those_of_the_program()
         (t : Table) (rows : List r.UnitRow) (objects : List o.ObjectRow) (file : File) (source : Source) →
         Stands p names → unit_at p d ≡ unit_of file source → RowsSay p d t [] rows (unit_at p d).rows →
         ObjectsSay p names d rows objects → length objects ≡ length unit.objects.items →
-        ((k : ℕ) (w : Row) → slice_get (unit_at p d).rows k ≡ Some w → w.object < length (unit_at p d).objects) →
+        ((k : ℕ) (w : OwnedMember) → slice_get (unit_at p d).rows k ≡ Some w → w.object < length (unit_at p d).objects) →
         slice_get ids d ≡ Some made → AreIds names d rows objects (Some made) →
         SaysIds p (roots_of p) names ids d unit }
 {}

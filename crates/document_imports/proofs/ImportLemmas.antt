@@ -15,7 +15,7 @@ use Rattle.qml_syntax.proofs.PlacesLemmas.{parts_at_places}
 use Rattle.program_names.specs.Paths.{Path}
 use Rattle.type_uses.specs.Uses.{node_at, nodes_at, dot_in}
 use Rattle.type_uses.proofs.PartLemmas.{node_parts}
-use Rattle.document_imports.specs.Imports.{Row, row, a_module, row_of, module_from, row_by, rows_at, qualifier_in, dotted, from_part}
+use Rattle.document_imports.specs.Imports.{WrittenImport, row, a_module, row_of, module_from, row_by, rows_at, qualifier_in, dotted, from_part}
 
 append_assoc : {A : Type 0} (a b c : List A) → (a ++ b) ++ c ≡ a ++ (b ++ c)
 append_assoc [] b c = refl
@@ -29,7 +29,7 @@ module_named n [] (Some q) = ap (λ (u : Units). (u, Some q)) (sym (append-nil n
 module_named n (m ∷ ns) q =
     module_named (n ++ (46 ∷ m)) ns q ∙ ap (λ (u : Units). (u, q)) (append_assoc n (46 ∷ m) (flat_map (λ x. 46 ∷ x) ns))
 
-abbrev row_item : Path → Item → Option Row
+abbrev row_item : Path → Item → Option WrittenImport
 row_item here i = row_by here (node_of i) (map node_of (parts_of i))
 
 one_import : (here : Path) (i : Import) → row_item here (of_import i) ≡ Some (row_of here i)
@@ -39,7 +39,7 @@ one_import here (import_text n p (Some q) c) = refl
 
 -- ---- all of them
 
-abbrev rows_items : Path → List Item → List Row
+abbrev rows_items : Path → List Item → List WrittenImport
 rows_items here [] = []
 rows_items here (i ∷ is) = option_to_list (row_item here i) ++ rows_items here is
 

@@ -24,7 +24,7 @@ use Rattle.document_members.specs.declared.parts.Name.{Name}
 use Rattle.document_members.specs.declared.parts.Head.{Head}
 use Rattle.document_members.specs.Forms.{form_of, made}
 use Rattle.document_members.specs.Parts.{items, name_in, value_in, kind_in, function_in, object_in, head_of, PopsPlace, PopsName, PopsPath, PopsParameters, PopsMembers}
-use Rattle.document_members.specs.Members.{Says, SaysForm, Reads, ReadsAll}
+use Rattle.document_members.specs.Members.{Says, SaysForm, ReadsMember, ReadsMembers}
 use Rattle.document_members.proofs.PartLemmas.{name_on_top, value_on_top, kind_on_top, function_on_top, object_on_top}
 
 name_is : (t : Table) (old new : List ℕ) (name : Name) (s : Parts) → PopsName t old new name → items t old ≡ s → (name.text, name.at) ≡ top_name s
@@ -155,7 +155,7 @@ is_member_form (given n p ns v) = refl
 is_member_form (group n p ns ms) = refl
 is_member_form (child o) = refl
 
-pub reads : (t : Table) (at : ℕ) (old : List ℕ) (f : Form) (m : Member) → IsListing t → old ≡ places_of t at → f ≡ form_of (node_of (part_at t at)) → SaysForm t f (items t old) m → Reads t at m
+pub reads : (t : Table) (at : ℕ) (old : List ℕ) (f : Form) (m : Member) → IsListing t → old ≡ places_of t at → f ≡ form_of (node_of (part_at t at)) → SaysForm t f (items t old) m → ReadsMember t at m
 reads t at old f m l e g h x i =
     let parts : items t old ≡ reverse (parts_of (part_at t at)) ++ [] =
     ap (items t) e ∙ map_reverse (part_at t) (places_of t at) ∙ ap reverse (parts_at_places t at l) ∙ sym (append-nil (reverse (parts_of (part_at t at)))) in
@@ -166,14 +166,14 @@ reads t at old f m l e g h x i =
 
 -- ---- all members
 
-read_last : (t : Table) (rs : List MemberRow) (ms : List Member) (r : MemberRow) (m : Member) → ReadsAll t rs ms → Reads t r.node m → ReadsAll t (rs ++ r ∷ []) (ms ++ m ∷ [])
+read_last : (t : Table) (rs : List MemberRow) (ms : List Member) (r : MemberRow) (m : Member) → ReadsMembers t rs ms → ReadsMember t r.node m → ReadsMembers t (rs ++ r ∷ []) (ms ++ m ∷ [])
 read_last t [] [] r m h e = (e, tt)
 read_last t (x ∷ rs) (y ∷ ms) r m h e = (h.0, read_last t rs ms r m h.1 e)
 read_last t [] (y ∷ ms) r m h e = absurd h
 read_last t (x ∷ rs) [] r m h e = absurd h
 
 pub reads_more : (t : Table) (rows : List MemberRow) (i : ℕ) (r : MemberRow) (ms after : List Member) (m : Member) → i < length rows
-    → ReadsAll t (take i rows) ms → Reads t (get_or rows i r).node m → after ≡ ms ++ m ∷ [] → ReadsAll t (take (i + 1) rows) after
+    → ReadsMembers t (take i rows) ms → ReadsMember t (get_or rows i r).node m → after ≡ ms ++ m ∷ [] → ReadsMembers t (take (i + 1) rows) after
 reads_more t rows i r ms after m l h f e =
-    subst (λ xs. ReadsAll t (take (i + 1) rows) xs) (sym e)
-    (subst (λ rs. ReadsAll t rs (ms ++ m ∷ [])) (sym (take_more rows i r l)) (read_last t (take i rows) ms (get_or rows i r) m h f))
+    subst (λ xs. ReadsMembers t (take (i + 1) rows) xs) (sym e)
+    (subst (λ rs. ReadsMembers t rs (ms ++ m ∷ [])) (sym (take_more rows i r l)) (read_last t (take i rows) ms (get_or rows i r) m h f))

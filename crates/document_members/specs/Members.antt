@@ -52,11 +52,11 @@ SaysForm t form.Other s m = Unit {0}
 SaysForm t f s m = Says t (made f s) m
 
 -- what is kept of the member at a place
-abbrev pub Reads : Table → ℕ → Member → Type 0
-Reads t at m = (x : AMember) → part_at t at ≡ of_member x false → Says t x m
+abbrev pub ReadsMember : Table → ℕ → Member → Type 0
+ReadsMember t at m = (x : AMember) → part_at t at ≡ of_member x false → Says t x m
 
-abbrev pub ReadsAll : Table → List MemberRow → List Member → Type 0
-ReadsAll t [] [] = Unit {0}
-ReadsAll t (r ∷ rs) (m ∷ ms) = Reads t r.node m × ReadsAll t rs ms
-ReadsAll t [] (m ∷ ms) = ⊥
-ReadsAll t (r ∷ rs) [] = ⊥
+abbrev pub ReadsMembers : Table → List MemberRow → List Member → Type 0
+ReadsMembers t [] [] = Unit {0}
+ReadsMembers t (r ∷ rs) (m ∷ ms) = ReadsMember t r.node m × ReadsMembers t rs ms
+ReadsMembers t [] (m ∷ ms) = ⊥
+ReadsMembers t (r ∷ rs) [] = ⊥

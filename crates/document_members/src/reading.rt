@@ -4,7 +4,7 @@ ghost use Rattle.std.specs.Prelude.{IfOk};
 ghost use Rattle.document_members.specs.declared.form.Form.TheVariants as f;
 ghost use Rattle.document_members.specs.Forms.{made};
 ghost use Rattle.document_members.specs.Parts.{items};
-ghost use Rattle.document_members.specs.Members.{Says, SaysForm, Reads, ReadsAll};
+ghost use Rattle.document_members.specs.Members.{Says, SaysForm, ReadsMember, ReadsMembers};
 
 use crate::form::{Form, form_at};
 use crate::member::Member;
@@ -16,7 +16,7 @@ use std::alloc::Global;
 
 /// The members of these rows, in their order.
 pub fn read_members(alloc: Global, tree: &Tree, rows: &[MemberRow]) -> Result<Vec<Member>, NoMemory>
-    ensures { IfOk result (λ members. ReadsAll tree.now rows.now members.items) }
+    ensures { IfOk result (λ members. ReadsMembers tree.now rows.now members.items) }
 {
     let mut parts = Vec::new(alloc);
     let mut members = Vec::new(alloc);
@@ -34,7 +34,7 @@ pub fn read_member(
     at: usize,
     parts: &mut Vec<usize>,
 ) -> Result<Member, NoMemory>
-    ensures { IfOk result (λ member. Reads tree.now at member) }
+    ensures { IfOk result (λ member. ReadsMember tree.now at member) }
 {
     parts.clear();
     let _root = tree.root();

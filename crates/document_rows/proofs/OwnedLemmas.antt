@@ -5,7 +5,7 @@ use Rattle.std.proofs.lemmas.List.{append-nil}
 use Rattle.std.proofs.lemmas.Grind.{flat_map-append}
 use Rattle.std.proofs.lemmas.Bool.Decides.{nat_tests}
 use Rattle.qml_syntax.specs.Tree.{Units, Object, object, Members, no_members, a_member, Member, id, property, bare, alias, signal, method, given, group, child, Value, value_object, value_list, value_stmt, Objects, last_object, an_object}
-use Rattle.program_names.specs.Written.{WrittenMember, WrittenObject, WrittenAs, as_root, as_child, as_value, count_object, count_members, count_member, count_value, count_list, member_from, members_from, members_in, objects_of, objects_of_members, objects_of_member, objects_of_value, objects_of_list, Row, row, rows_of, rows_of_members, rows_in, rows_of_value, rows_of_list}
+use Rattle.program_names.specs.Written.{WrittenMember, WrittenObject, WrittenAs, as_root, as_child, as_value, count_object, count_members, count_member, count_value, count_list, member_from, members_from, members_in, objects_of, objects_of_members, objects_of_member, objects_of_value, objects_of_list, OwnedMember, row, rows_of, rows_of_members, rows_in, rows_of_value, rows_of_list}
 use Rattle.document_rows.proofs.PathLemmas.{assoc, added}
 use Rattle.document_rows.specs.WrittenObjects.{kept, members_of_object, members_at}
 
@@ -86,13 +86,13 @@ mutual
 
 -- ---- the members of an object among its rows and among those of the objects in it
 
-both : (j : ℕ) (rows others : List Row) (a b : List WrittenMember) → members_of_object j rows ≡ a → members_of_object j others ≡ b → members_of_object j (rows ++ others) ≡ a ++ b
+both : (j : ℕ) (rows others : List OwnedMember) (a b : List WrittenMember) → members_of_object j rows ≡ a → members_of_object j others ≡ b → members_of_object j (rows ++ others) ≡ a ++ b
 both j rows others a b e f = flat_map-append (kept j) rows others ∙ ap (λ x. x ++ members_of_object j others) e ∙ ap (λ y. a ++ y) f
 
-skipped : (o j : ℕ) (m : WrittenMember) (rows : List Row) (a : List WrittenMember) → nat_eq o j ≡ false → members_of_object j rows ≡ a → members_of_object j (row o m ∷ rows) ≡ a
+skipped : (o j : ℕ) (m : WrittenMember) (rows : List OwnedMember) (a : List WrittenMember) → nat_eq o j ≡ false → members_of_object j rows ≡ a → members_of_object j (row o m ∷ rows) ≡ a
 skipped o j m rows a h e = ap (λ b. (if b then m ∷ [] else []) ++ members_of_object j rows) h ∙ e
 
-taken : (o j : ℕ) (m : WrittenMember) (rows : List Row) (a : List WrittenMember) → nat_eq o j ≡ true → members_of_object j rows ≡ a → members_of_object j (row o m ∷ rows) ≡ m ∷ a
+taken : (o j : ℕ) (m : WrittenMember) (rows : List OwnedMember) (a : List WrittenMember) → nat_eq o j ≡ true → members_of_object j rows ≡ a → members_of_object j (row o m ∷ rows) ≡ m ∷ a
 taken o j m rows a h e = ap (λ b. (if b then m ∷ [] else []) ++ members_of_object j rows) h ∙ ap (λ x. m ∷ x) e
 
 further : (j n c : ℕ) → j < n → j < n + c

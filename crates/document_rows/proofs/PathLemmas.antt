@@ -4,7 +4,7 @@ use Rattle.std.specs.Prelude.{slice_get, unwrap_or}
 use Rattle.std.proofs.lemmas.List.{length-append, append-nil, map-append}
 use Rattle.qml_syntax.specs.Tree.{Units, Object, object, Members, no_members, a_member, Member, id, property, bare, alias, signal, method, given, group, child, Value, value_object, value_list, value_stmt, Objects, last_object, an_object}
 use Rattle.qml_syntax.specs.Nodes.{of_member}
-use Rattle.program_names.specs.Written.{count_object, count_member, member_from, Row, row, rows_of, rows_of_members, rows_in, rows_of_value, rows_of_list}
+use Rattle.program_names.specs.Written.{count_object, count_member, member_from, OwnedMember, row, rows_of, rows_of_members, rows_in, rows_of_value, rows_of_list}
 use Rattle.document_rows.specs.Entries.{MemberEntry, a_member_entry, rows_in_object, rows_in_members, rows_in_member, rows_in_value, rows_in_list, members_with, members_of, members_inside, members_of_value, members_of_list}
 use Rattle.document_rows.specs.WholePaths.{names_added, path_at, member_of, rows_behind}
 use Rattle.document_rows.specs.WrittenObjects.{Placed, placed_behind}
@@ -15,7 +15,7 @@ Paths = List (List Units)
 abbrev own : Placed → List Units
 own x = x.0 ++ names_added x.1.part
 
-abbrev row_of : Placed → Row
+abbrev row_of : Placed → OwnedMember
 row_of x = row x.1.object (member_of x.0 x.1.first x.1.part)
 
 -- ---- the entries of a document, each with the names of the groups around it
@@ -206,7 +206,7 @@ as_rows paths [] = refl
 as_rows paths (e ∷ rest) =
     ap (λ rows. row e.object (member_of (path_at paths e.group) e.first e.part) ∷ rows) (as_rows (paths ++ (path_at paths e.group ++ names_added e.part) ∷ []) rest)
 
-two_rows : (a b : List Placed) (x y : List Row) → map row_of a ≡ x → map row_of b ≡ y → map row_of (a ++ b) ≡ x ++ y
+two_rows : (a b : List Placed) (x y : List OwnedMember) → map row_of a ≡ x → map row_of b ≡ y → map row_of (a ++ b) ≡ x ++ y
 two_rows a b x y e f = map-append row_of a b ∙ ap (λ z. z ++ map row_of b) e ∙ ap (λ z. x ++ z) f
 
 mutual

@@ -4,7 +4,7 @@ use Rattle.std.specs.Option.{unwrap_or}
 use Rattle.qml_base.specs.declared.numbers.Place.{Place}
 use Rattle.qml_syntax.specs.Tree.{Units, group}
 use Rattle.qml_syntax.specs.Nodes.{Item, of_member}
-use Rattle.program_names.specs.Written.{WrittenMember, a_stray, member_from, Row, row}
+use Rattle.program_names.specs.Written.{WrittenMember, a_stray, member_from, OwnedMember, row}
 use Rattle.document_rows.specs.Entries.{MemberEntry}
 
 -- the names that a member adds for those in it
@@ -25,7 +25,7 @@ member_of before n (of_member m b) = member_from before n m
 member_of before n _ = a_stray nowhere
 
 -- the rows behind some, whose paths these are
-abbrev pub rows_behind : List (List Units) → List MemberEntry → List Row
+abbrev pub rows_behind : List (List Units) → List MemberEntry → List OwnedMember
 rows_behind paths [] = []
 rows_behind paths (e ∷ rest) =
     let before = path_at paths e.group in

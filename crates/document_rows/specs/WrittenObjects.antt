@@ -4,7 +4,7 @@ use Rattle.std.specs.Option.{option_map, unwrap_or}
 use Rattle.std.specs.List.{flat_map}
 use Rattle.qml_syntax.specs.Tree.{Units, TypeName, object, property, given, child}
 use Rattle.qml_syntax.specs.Nodes.{Item, of_member, of_object, type_named}
-use Rattle.program_names.specs.Written.{WrittenMember, WrittenAs, as_root, as_child, as_value, WrittenObject, Row}
+use Rattle.program_names.specs.Written.{WrittenMember, WrittenAs, as_root, as_child, as_value, WrittenObject, OwnedMember}
 use Rattle.document_rows.specs.Entries.{ObjectEntry, MemberEntry}
 use Rattle.document_rows.specs.WholePaths.{names_added, path_at, nowhere}
 
@@ -47,11 +47,11 @@ typed w = (w.type, w.role)
 
 -- ---- members
 
-abbrev pub kept : ℕ → Row → List WrittenMember
+abbrev pub kept : ℕ → OwnedMember → List WrittenMember
 kept o r = if nat_eq r.object o then r.member ∷ [] else []
 
 -- those of the object of a number
-abbrev pub members_of_object : ℕ → List Row → List WrittenMember
+abbrev pub members_of_object : ℕ → List OwnedMember → List WrittenMember
 members_of_object o rows = flat_map (kept o) rows
 
 abbrev pub members_at : List WrittenObject → ℕ → List WrittenMember

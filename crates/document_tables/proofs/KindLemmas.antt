@@ -16,7 +16,7 @@ use Rattle.program_names.specs.Paths.{Path, directory_of}
 use Rattle.program_names.specs.Reading.{File}
 use Rattle.program_names.specs.Types.{TypeUse, uses_type}
 use Rattle.program_names.specs.Loaded.{Program, unit_at, type_named, type_named_by, kind_named}
-use Rattle.document_imports.specs.Imports.{Row, row_of}
+use Rattle.document_imports.specs.Imports.{WrittenImport, row_of}
 use Rattle.document_members.specs.declared.member.Member.{Member}
 use Rattle.document_members.specs.declared.member.Member.TheVariants as m
 use Rattle.document_members.specs.Parts.{kind_in}
@@ -34,7 +34,7 @@ use Rattle.document_tables.proofs.MakingLemmas.{KindsFound}
 abbrev pub here_in : Program → ℕ → Path
 here_in p d = directory_of (unit_at p d).file.path
 
-abbrev pub imports_in : Program → ℕ → List Row
+abbrev pub imports_in : Program → ℕ → List WrittenImport
 imports_in p d = map (row_of (here_in p d)) (unit_at p d).imports
 
 named_type : (p : Program) (d : ℕ) (q : Option Units) (n : Units) → type_in (files_in p) (here_in p d) (imports_in p d) q n ≡ type_named p d q n
@@ -64,10 +64,10 @@ node_type p d t at x ms lists e =
 
 -- ---- kinds
 
-abbrev kind_item : List File → Path → List Row → Item → PropKind
+abbrev kind_item : List File → Path → List WrittenImport → Item → PropKind
 kind_item files here imports i = kind_by_node files here imports (node_of i) (map node_of (parts_of i))
 
-kind_parts : (files : List File) (here : Path) (imports : List Row) (t : Table) (at : ℕ) → IsListing t → kind_at files here imports t at ≡ kind_item files here imports (part_at t at)
+kind_parts : (files : List File) (here : Path) (imports : List WrittenImport) (t : Table) (at : ℕ) → IsListing t → kind_at files here imports t at ≡ kind_item files here imports (part_at t at)
 kind_parts files here imports t at lists = ap (kind_by_node files here imports (node_at t at)) (node_parts t at lists)
 
 written_kind : (p : Program) (d : ℕ) (k : Kind) → kind_item (files_in p) (here_in p d) (imports_in p d) (of_kind (Some k)) ≡ kind_named p d k
@@ -98,7 +98,7 @@ kinds_alike _ z = refl
 by_node : (i : Item) → is_kind_node (node_of i) ≡ is_kind i
 by_node i = kinds_alike (node_of i) (reverse (parts_of i) ++ []) ∙ ap (λ s. is_kind (top s)) (level_is_made i [])
 
-no_kind_node : (files : List File) (here : Path) (imports : List Row) (x : Node) (xs : List Node) → is_kind_node x ≡ false → kind_by_node files here imports x xs ≡ kind.Var
+no_kind_node : (files : List File) (here : Path) (imports : List WrittenImport) (x : Node) (xs : List Node) → is_kind_node x ≡ false → kind_by_node files here imports x xs ≡ kind.Var
 no_kind_node files here imports (node.KindList n p) xs h = absurd (false≢true (sym h))
 no_kind_node files here imports node.KindName xs h = absurd (false≢true (sym h))
 no_kind_node files here imports _ xs h = refl

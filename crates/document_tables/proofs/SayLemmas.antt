@@ -10,7 +10,7 @@ use Rattle.program_names.specs.Loaded.{Program, no_object}
 use Rattle.document_rows.specs.Entries.{member_entry}
 use Rattle.document_rows.specs.WholePaths.{names_added, path_at, member_of, rows_behind}
 use Rattle.document_rows.specs.WrittenObjects.{members_at}
-use Rattle.document_members.specs.Members.{written_in, added_by, Says, ReadsAll}
+use Rattle.document_members.specs.Members.{written_in, added_by, Says, ReadsMembers}
 use Rattle.program_tables.specs.declared.building.UnitRow.{UnitRow}
 use Rattle.program_tables.specs.RowsSay.{SaysKinds, RowsSay, row_of, member_of_row}
 use Rattle.document_tables.proofs.ObjectLemmas.{AreMembers}
@@ -19,7 +19,7 @@ one_row : (t : Table) (before : List Units) (r : UnitRow) (x : AMember) → part
     → written_in t before r.row.first r.member ≡ member_of before r.row.first (part_at t r.row.node)
 one_row t before r x e s = s.same before r.row.first ∙ ap (member_of before r.row.first) (sym e)
 
-pub row_after_row : (p : Program) (d : ℕ) (t : Table) (paths : List (List Units)) (rows : List UnitRow) → AreMembers (map (member_entry t) (map row_of rows)) → ReadsAll t (map row_of rows) (map member_of_row rows)
+pub row_after_row : (p : Program) (d : ℕ) (t : Table) (paths : List (List Units)) (rows : List UnitRow) → AreMembers (map (member_entry t) (map row_of rows)) → ReadsMembers t (map row_of rows) (map member_of_row rows)
     → SaysKinds p d t rows → RowsSay p d t paths rows (rows_behind paths (map (member_entry t) (map row_of rows)))
 row_after_row p d t paths [] m r k = tt
 row_after_row p d t paths (x ∷ rows) m r k =

@@ -17,7 +17,7 @@ use Rattle.program_names.specs.Paths.{Path as FilePath, directory_of}
 use Rattle.program_names.specs.Written.{as_root, objects_of}
 use Rattle.program_names.specs.Reading.{File, Source, no_file, too_large, unread, is_document, is_script}
 use Rattle.program_names.specs.Loaded.{Program, Unit as AUnit, unit_of, unit_at, no_object, type_of_object, type_named_by}
-use Rattle.document_imports.specs.Imports.{Row, row_of}
+use Rattle.document_imports.specs.Imports.{WrittenImport, row_of}
 use Rattle.document_rows.specs.declared.rows.ObjectRow.{ObjectRow}
 use Rattle.document_rows.specs.declared.rows.MemberRow.{MemberRow}
 use Rattle.document_rows.specs.Entries.{member_entry, members_with, AreRows}
@@ -25,7 +25,7 @@ use Rattle.document_rows.specs.WholePaths.{rows_behind}
 use Rattle.document_rows.specs.WrittenObjects.{members_of_object}
 use Rattle.document_rows.proofs.PathLemmas.{whole_paths}
 use Rattle.document_rows.proofs.OwnedLemmas.{members_by_rows}
-use Rattle.document_members.specs.Members.{ReadsAll}
+use Rattle.document_members.specs.Members.{ReadsMembers}
 use Rattle.program_tables.specs.declared.building.UnitRow.{UnitRow}
 use Rattle.program_tables.specs.declared.names.ObjectNames.{ObjectNames}
 use Rattle.program_tables.specs.declared.names.UnitNames.{UnitNames}
@@ -52,7 +52,7 @@ some_objects (object t ms) = positive _
 
 -- ---- a document
 
-abbrev types_found : List File → FilePath → List Row → Table → List ObjectRow → List TypeRef
+abbrev types_found : List File → FilePath → List WrittenImport → Table → List ObjectRow → List TypeRef
 types_found files here imports t objects = map (λ (r : ObjectRow). object_type files here imports t r.node) objects
 
 document_tells : (p : Program) (k : ℕ) (file : File) (t : Table) (objects : List ObjectRow) (members : List MemberRow) (rows : List UnitRow) (inside : List Bool) (bases : List TypeRef) (names : UnitNames)
@@ -76,7 +76,7 @@ document_tells p k file t objects members rows inside bases names a e b makes i 
         built = built ∙ ap (λ bs. rows_added 0 [] rows (map nothing_declared bs)) b;
         says = subst (λ ws. RowsSay p k t [] rows ws) all
             (row_after_row p k t [] rows (subst AreMembers (sym entries) (in_object 0 0 a.root))
-            (subst (λ ms. ReadsAll t ms (map member_of_row rows)) (sym made) (rows_read (files_in p) (here_in p k) (imports_in p k) t members rows makes))
+            (subst (λ ms. ReadsMembers t ms (map member_of_row rows)) (sym made) (rows_read (files_in p) (here_in p k) (imports_in p k) t members rows makes))
             (kinds_said p k t rows lists (kinds_found (files_in p) (here_in p k) (imports_in p k) t members rows makes)));
         members = λ o.
             ap (λ (v : AUnit). (unwrap_or (slice_get v.objects o) no_object).members) e ∙ members_there (objects_of as_root 0 a.root) o ∙ members_by_rows a.root o ∙
@@ -98,7 +98,7 @@ document_in d _ = d
 one_document : (t : Table) (d e : Document) → listed_document d ≡ t → listed_document e ≡ t → d ≡ e
 one_document t d e g h = ap (document_in d) (listed_once (whole_document d) (whole_document e) (g ∙ sym h))
 
-pub document_made : (files : List File) (here : FilePath) (file : File) (t : Table) (objects : List ObjectRow) (members : List MemberRow) (imports : List Row) (rows : List UnitRow) (inside : List Bool)
+pub document_made : (files : List File) (here : FilePath) (file : File) (t : Table) (objects : List ObjectRow) (members : List MemberRow) (imports : List WrittenImport) (rows : List UnitRow) (inside : List Bool)
     (bases : List TypeRef) (names : UnitNames) → here ≡ directory_of file.path → AreRows t objects members
     → ((is : List Import) (root : Object) → listed_document (document is root) ≡ t → imports ≡ map (row_of here) is)
     → bases ≡ types_found files here imports t objects → MakesRows files here imports t members rows → inside ≡ insides [] rows

@@ -6,7 +6,7 @@ use Rattle.std.proofs.lemmas.Bool.{false≢true}
 use Rattle.std.proofs.lemmas.Bool.Decides.{nat_tests}
 use Rattle.qml_syntax.specs.Tree.{Units}
 use Rattle.qml_syntax.specs.Nodes.{Table}
-use Rattle.program_names.specs.Written.{WrittenObject, WrittenMember, Row}
+use Rattle.program_names.specs.Written.{WrittenObject, WrittenMember, OwnedMember}
 use Rattle.program_names.specs.Loaded.{Program, unit_at, no_object}
 use Rattle.document_rows.specs.WholePaths.{path_at}
 use Rattle.document_rows.specs.WrittenObjects.{kept, members_of_object}
@@ -40,7 +40,7 @@ filled_by [] (m.Group path) = refl
 filled_by [] (m.Id w n at) = refl
 filled_by [] _ = refl
 
-abbrev pub AllThere : List UnitNames → ℕ → List Row → Type 0
+abbrev pub AllThere : List UnitNames → ℕ → List OwnedMember → Type 0
 AllThere us d [] = Unit {0}
 AllThere us d (w ∷ ws) = (is_there us d w.object ≡ true) × AllThere us d ws
 
@@ -58,7 +58,7 @@ itself : (k : ℕ) → nat_eq k k ≡ true
 itself k = grind (arith, nat_tests)
 
 -- no row is of an object from n on
-abbrev NoneFrom : ℕ → List Row → Type 0
+abbrev NoneFrom : ℕ → List OwnedMember → Type 0
 NoneFrom n rows = (o : ℕ) → n ≤ o → members_of_object o rows ≡ []
 
 is_lower : (a n : ℕ) → nat_lt a n ≡ true → a < n
@@ -70,7 +70,7 @@ is_no_lower a n h = grind (arith, nat_tests)
 some_members : (x : WrittenMember) (xs : List WrittenMember) → x ∷ xs ≡ [] → ⊥
 some_members x xs e = false≢true (sym (ap has_some e))
 
-own_row : (n : ℕ) (r : Row) (rs : List Row) → NoneFrom n (r ∷ rs) → r.object < n
+own_row : (n : ℕ) (r : OwnedMember) (rs : List OwnedMember) → NoneFrom n (r ∷ rs) → r.object < n
 own_row n r rs h = by_order (nat_lt r.object n) refl
   where
     by_order : (b : Bool) → nat_lt r.object n ≡ b → r.object < n
@@ -79,7 +79,7 @@ own_row n r rs h = by_order (nat_lt r.object n) refl
         absurd (some_members r.member (members_of_object r.object rs)
         (sym (ap (λ b. (if b then r.member ∷ [] else []) ++ members_of_object r.object rs) (itself r.object)) ∙ h r.object (is_no_lower r.object n l)))
 
-all_there : (us : List UnitNames) (d n : ℕ) → ((o : ℕ) → o < n → is_there us d o ≡ true) → (rows : List Row) → NoneFrom n rows → AllThere us d rows
+all_there : (us : List UnitNames) (d n : ℕ) → ((o : ℕ) → o < n → is_there us d o ≡ true) → (rows : List OwnedMember) → NoneFrom n rows → AllThere us d rows
 all_there us d n there [] h = tt
 all_there us d n there (r ∷ rs) h =
     (there r.object (own_row n r rs h), all_there us d n there rs (λ o l. nothing_left (kept o r) (members_of_object o rs) (h o l)))

@@ -8,7 +8,7 @@ use Rattle.event_script.specs.Script.{Asks, IsSkipped}
 use Rattle.event_script.specs.declared.script.LineKind.{LineKind}
 use Rattle.event_script.proofs.WordLemmas.{no_chars, some_chars}
 use Rattle.qml_text.specs.Utf.{encode_utf16_all}
-use Rattle.event_script.specs.Adding.{AddsText, blank, asks_for, asks_nothing, Adds, left_out, told, bad}
+use Rattle.event_script.specs.Adding.{AddsText, blank, asks_for, asks_nothing, Adds, left_out, added_line, bad}
 use Rattle.event_script.specs.declared.script.Line.{Line}
 
 pub comment : (n : ℕ) (line : List ℕ) (lines : List Line) → IsUtf8 line → begins (λ x. x == 35) (chars line) ≡ true → Adds n line lines lines true
@@ -20,7 +20,7 @@ no_text n line old new h = bad (record { no_skip = λ s. h s.utf8; asks_nothing 
 pub line_by_text : (n : ℕ) (line : List ℕ) (old new : List Line) (good : Bool) → IsUtf8 line → begins (λ x. x == 35) (chars line) ≡ false
     → AddsText n (trimmed (chars line)) old new good → Adds n line old new good
 line_by_text n line old _ _ u c (blank e) = left_out (record { utf8 = u; skipped = inr e })
-line_by_text n line old _ _ u c (asks_for kind some a) = told (record { utf8 = u; no_comment = c; some = some; asks_for = a; is_text = refl })
+line_by_text n line old _ _ u c (asks_for kind some a) = added_line (record { utf8 = u; no_comment = c; some = some; asks_for = a; is_text = refl })
 line_by_text n line old new _ u c (asks_nothing some a) = bad (record { no_skip = none; asks_nothing = λ kind text t. a kind t.asks_for })
   where
     by : (begins (λ x. x == 35) (chars line) ≡ true) ⊎ (trimmed (chars line) ≡ []) → ⊥

@@ -4,8 +4,8 @@ use Rattle.std.specs.Prelude.{◌==◌}
 use Rattle.std.proofs.lemmas.List.{drop_more, take_more}
 use Rattle.qml_lexer.specs.Characters.{begins}
 use Rattle.event_script.specs.Lines.{onto, ends_line, lines_of}
-use Rattle.event_script.specs.Script.{Say, at_end, left_out as say_left_out, told as say_told, FirstBad, here, behind_skipped, behind_told}
-use Rattle.event_script.specs.Adding.{Adds, left_out, told, bad, Left}
+use Rattle.event_script.specs.Script.{Say, at_end, left_out as say_left_out, said_line, FirstBad, here, behind_skipped, behind_told}
+use Rattle.event_script.specs.Adding.{Adds, left_out, added_line, bad, Left}
 use Rattle.event_script.specs.declared.script.Line.{Line}
 
 -- ---- the end of a line
@@ -88,8 +88,8 @@ starts all = record { say = λ more h. h; fail = λ n h. h }
 
 pub goes_on : (all : List (List ℕ)) (n : ℕ) (line : List ℕ) (left : List (List ℕ)) (old new : List Line) → Left all n (line ∷ left) old → Adds n line old new true → Left all (n + 1) left new
 goes_on all n line left old new l (left_out s) = record { say = λ more h. l.say more (say_left_out s h); fail = λ number h. l.fail number (behind_skipped s h) }
-goes_on all n line left old new l (told t) = record {
-  say = λ more h. let P : List Line → Type 0 = λ z. Say 1 all z in subst P (sym (append_assoc old _ more)) (l.say _ (say_told t h));
+goes_on all n line left old new l (added_line t) = record {
+  say = λ more h. let P : List Line → Type 0 = λ z. Say 1 all z in subst P (sym (append_assoc old _ more)) (l.say _ (said_line t h));
   fail = λ number h. l.fail number (behind_told t h);
 }
 

@@ -16,7 +16,7 @@ pub data AddsText (n : ℕ) (text : List ℕ) (old : List Line) : List Line → 
 -- likewise for a line as it stands
 pub data Adds (n : ℕ) (line : List ℕ) (old : List Line) : List Line → Bool → Type 0 where
   left_out : IsSkipped line → Adds n line old old true
-  told : {kind : LineKind} {text : List ℕ} → Tells line kind text → Adds n line old (old ++ record { number = n; what = kind; text = text } ∷ []) true
+  added_line : {kind : LineKind} {text : List ℕ} → Tells line kind text → Adds n line old (old ++ record { number = n; what = kind; text = text } ∷ []) true
   bad : {new : List Line} → IsBad line → Adds n line old new false
 
 -- of all lines those from a number on are left, behind what the others say

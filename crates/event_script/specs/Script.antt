@@ -91,7 +91,7 @@ pub record Tells (line : List ℕ) (kind : LineKind) (text : List ℕ) : Type 0 
 pub data Say : ℕ → List (List ℕ) → List Line → Type 0 where
   at_end : {n : ℕ} → Say n [] []
   left_out : {n : ℕ} {line : List ℕ} {lines : List (List ℕ)} {said : List Line} → IsSkipped line → Say (n + 1) lines said → Say n (line ∷ lines) said
-  told : {n : ℕ} {line text : List ℕ} {kind : LineKind} {lines : List (List ℕ)} {said : List Line} → Tells line kind text → Say (n + 1) lines said
+  said_line : {n : ℕ} {line text : List ℕ} {kind : LineKind} {lines : List (List ℕ)} {said : List Line} → Tells line kind text → Say (n + 1) lines said
       → Say n (line ∷ lines) (record { number = n; what = kind; text = text } ∷ said)
 
 -- a line that is neither left out nor asks for something

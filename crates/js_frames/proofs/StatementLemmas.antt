@@ -466,7 +466,7 @@ rests_on w c x p old new y h =
     let go : List Item → Ask = λ is. run_all (around_at x) (stmts_in is) (state_of c old) (exits_in c x old.frames) in
     elim h [
       | inl l ↦ turned w c x next.Done old new y l.1 ∙ ap (λ z. on w old (go z)) (sym l.0)
-      | inr r ↦ added w c x (frame.Row r.0) (next.Run r.0) old new y r.2 ∙ ap (λ z. on w old (go z)) (sym r.1)
+      | inr r ↦ added w c x (frame.Statements r.0) (next.Run r.0) old new y r.2 ∙ ap (λ z. on w old (go z)) (sym r.1)
     ]
 
 -- ---- behind a value
@@ -521,7 +521,7 @@ takes_on w c x _ v old new y h = absurd h
 -- ---- behind a statement
 
 pub goes_on_on : (w : World) (c : Laid) (x : Where) (f : Frame) (old new : Standing) (y : Next) → GoesOn c f old new y → told w c x new y ≡ told w c x (with_frame f old) next.Done
-goes_on_on w c x (frame.Row p) old new y h = turned w c x (next.Rest p) old new y h
+goes_on_on w c x (frame.Statements p) old new y h = turned w c x (next.Rest p) old new y h
 goes_on_on w c x frame.Scope old new y h = scoped_on w c x (inner (scopes_of c old.locals)) next.Done old new y (next_in c x old.frames) (λ ls. refl) h
 goes_on_on w c x (frame.Round n p) old new y h = loops_on w c x n p old new y h
 goes_on_on w c x (frame.ForStart p) old new y h = for_loops_on w c x most p old new y h
@@ -529,21 +529,21 @@ goes_on_on w c x (frame.ForRound n p) old new y h = for_updates_on w c x n p old
 goes_on_on w c x _ old new y h = absurd h
 
 pub gives_on : (w : World) (c : Laid) (x : Where) (f : Frame) (v : Value) (old new : Standing) (y : Next) → Gives c f v old new y → told w c x new y ≡ told w c x (with_frame f old) (next.Give v)
-gives_on w c x (frame.Row p) v old new y h = turned w c x (next.Give v) old new y h
+gives_on w c x (frame.Statements p) v old new y h = turned w c x (next.Give v) old new y h
 gives_on w c x frame.Scope v old new y h = scoped_on w c x (inner (scopes_of c old.locals)) (next.Give v) old new y (give_in c x old.frames v) (λ ls. refl) h
 gives_on w c x (frame.Round n p) v old new y h = turned w c x (next.Give v) old new y h
 gives_on w c x (frame.ForRound n p) v old new y h = turned w c x (next.Give v) old new y h
 gives_on w c x _ v old new y h = absurd h
 
 pub stops_on : (w : World) (c : Laid) (x : Where) (f : Frame) (old new : Standing) (y : Next) → Stops c f old new y → told w c x new y ≡ told w c x (with_frame f old) next.Stop
-stops_on w c x (frame.Row p) old new y h = turned w c x next.Stop old new y h
+stops_on w c x (frame.Statements p) old new y h = turned w c x next.Stop old new y h
 stops_on w c x frame.Scope old new y h = scoped_on w c x (inner (scopes_of c old.locals)) next.Stop old new y (stop_in c x old.frames) (λ ls. refl) h
 stops_on w c x (frame.Round n p) old new y h = turned w c x next.Done old new y h
 stops_on w c x (frame.ForRound n p) old new y h = turned w c x next.Done old new y h
 stops_on w c x _ old new y h = absurd h
 
 pub goes_again_on : (w : World) (c : Laid) (x : Where) (f : Frame) (old new : Standing) (y : Next) → GoesAgain c f old new y → told w c x new y ≡ told w c x (with_frame f old) next.Again
-goes_again_on w c x (frame.Row p) old new y h = turned w c x next.Again old new y h
+goes_again_on w c x (frame.Statements p) old new y h = turned w c x next.Again old new y h
 goes_again_on w c x frame.Scope old new y h = scoped_on w c x (inner (scopes_of c old.locals)) next.Again old new y (again_in c x old.frames) (λ ls. refl) h
 goes_again_on w c x (frame.Round n p) old new y h = loops_on w c x n p old new y h
 goes_again_on w c x (frame.ForRound n p) old new y h = for_updates_on w c x n p old new y h

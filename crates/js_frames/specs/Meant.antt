@@ -253,7 +253,7 @@ abbrev mutual
 
   pub next_in : Laid → Where → List Frame → State → Ask
   next_in c x [] s = ended (by.Value Undefined)
-  next_in c x (frame.Row p ∷ fs) s = run_all (around_at x) (stmts_in (c.rest p)) s (record { next = next_in c x fs; give = give_in c x fs; stop = stop_in c x fs; again = again_in c x fs })
+  next_in c x (frame.Statements p ∷ fs) s = run_all (around_at x) (stmts_in (c.rest p)) s (record { next = next_in c x fs; give = give_in c x fs; stop = stop_in c x fs; again = again_in c x fs })
   next_in c x (frame.Scope ∷ fs) s = next_in c x fs (leaves s)
   next_in c x (frame.Round n p ∷ fs) s = rounds n (while_turn c (around_at x) p (give_in c x fs)) s (next_in c x fs)
   next_in c x (frame.ForStart p ∷ fs) s = rounds most (for_turn c (around_at x) p (give_in c x fs)) s (next_in c x fs)
@@ -265,7 +265,7 @@ abbrev mutual
 
   pub give_in : Laid → Where → List Frame → Value → State → Ask
   give_in c x [] v s = ended (by.Value v)
-  give_in c x (frame.Row p ∷ fs) v s = give_in c x fs v s
+  give_in c x (frame.Statements p ∷ fs) v s = give_in c x fs v s
   give_in c x (frame.Scope ∷ fs) v s = give_in c x fs v (leaves s)
   give_in c x (frame.Round n p ∷ fs) v s = give_in c x fs v s
   give_in c x (frame.ForRound n p ∷ fs) v s = give_in c x fs v s
@@ -276,7 +276,7 @@ abbrev mutual
 
   pub stop_in : Laid → Where → List Frame → State → Ask
   stop_in c x [] s = ended (by.Value Undefined)
-  stop_in c x (frame.Row p ∷ fs) s = stop_in c x fs s
+  stop_in c x (frame.Statements p ∷ fs) s = stop_in c x fs s
   stop_in c x (frame.Scope ∷ fs) s = stop_in c x fs (leaves s)
   stop_in c x (frame.Round n p ∷ fs) s = next_in c x fs s
   stop_in c x (frame.ForRound n p ∷ fs) s = next_in c x fs s
@@ -287,7 +287,7 @@ abbrev mutual
 
   pub again_in : Laid → Where → List Frame → State → Ask
   again_in c x [] s = ended (by.Value Undefined)
-  again_in c x (frame.Row p ∷ fs) s = again_in c x fs s
+  again_in c x (frame.Statements p ∷ fs) s = again_in c x fs s
   again_in c x (frame.Scope ∷ fs) s = again_in c x fs (leaves s)
   again_in c x (frame.Round n p ∷ fs) s = rounds n (while_turn c (around_at x) p (give_in c x fs)) s (next_in c x fs)
   again_in c x (frame.ForRound n p ∷ fs) s = for_updated c (around_at x) p s (λ t. rounds n (for_turn c (around_at x) p (give_in c x fs)) t (next_in c x fs))

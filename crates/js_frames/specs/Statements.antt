@@ -157,7 +157,7 @@ RunsAt c at old new y = RunsBy c (is_expr_stmt (node_of (c.item at))) at old new
 abbrev pub Rests : Laid → ℕ → Standing → Standing → Next → Type 0
 Rests c p old new y =
     ((c.rest p ≡ []) × Turns next.Done old new y)
-    ⊎ ((q : ℕ) × (c.rest p ≡ c.item q ∷ c.rest q) × Adds (frame.Row q) (next.Run q) old new y)
+    ⊎ ((q : ℕ) × (c.rest p ≡ c.item q ∷ c.rest q) × Adds (frame.Statements q) (next.Run q) old new y)
 
 -- ---- behind a value that a statement awaits
 
@@ -194,7 +194,7 @@ abbrev pub Leaves : Laid → Next → Standing → Standing → Next → Type 0
 Leaves c x old new y = Scoped c (inner (scopes_of c old.locals)) x old new y
 
 abbrev pub GoesOn : Laid → Frame → Standing → Standing → Next → Type 0
-GoesOn c (frame.Row p) old new y = Turns (next.Rest p) old new y
+GoesOn c (frame.Statements p) old new y = Turns (next.Rest p) old new y
 GoesOn c frame.Scope old new y = Leaves c next.Done old new y
 GoesOn c (frame.Round n p) old new y = Loops n p old new y
 GoesOn c (frame.ForStart p) old new y = ForLoops c most p old new y
@@ -202,21 +202,21 @@ GoesOn c (frame.ForRound n p) old new y = ForUpdates c n p old new y
 GoesOn c f old new y = ⊥
 
 abbrev pub Gives : Laid → Frame → Value → Standing → Standing → Next → Type 0
-Gives c (frame.Row p) v old new y = Turns (next.Give v) old new y
+Gives c (frame.Statements p) v old new y = Turns (next.Give v) old new y
 Gives c frame.Scope v old new y = Leaves c (next.Give v) old new y
 Gives c (frame.Round n p) v old new y = Turns (next.Give v) old new y
 Gives c (frame.ForRound n p) v old new y = Turns (next.Give v) old new y
 Gives c f v old new y = ⊥
 
 abbrev pub Stops : Laid → Frame → Standing → Standing → Next → Type 0
-Stops c (frame.Row p) old new y = Turns next.Stop old new y
+Stops c (frame.Statements p) old new y = Turns next.Stop old new y
 Stops c frame.Scope old new y = Leaves c next.Stop old new y
 Stops c (frame.Round n p) old new y = Turns next.Done old new y
 Stops c (frame.ForRound n p) old new y = Turns next.Done old new y
 Stops c f old new y = ⊥
 
 abbrev pub GoesAgain : Laid → Frame → Standing → Standing → Next → Type 0
-GoesAgain c (frame.Row p) old new y = Turns next.Again old new y
+GoesAgain c (frame.Statements p) old new y = Turns next.Again old new y
 GoesAgain c frame.Scope old new y = Leaves c next.Again old new y
 GoesAgain c (frame.Round n p) old new y = Loops n p old new y
 GoesAgain c (frame.ForRound n p) old new y = ForUpdates c n p old new y

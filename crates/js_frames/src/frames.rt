@@ -140,7 +140,7 @@ pub enum Frame {
     /// It is that of the expression at the second place, of the name declared at the first.
     Var(Declaration, usize, usize),
     /// The statement at a place is run, of several.
-    Row(usize),
+    Statements(usize),
     /// A scope is open.
     Scope,
     /// The statement is run of the `while` whose condition stands at a place, with this many rounds left.

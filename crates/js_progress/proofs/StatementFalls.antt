@@ -127,7 +127,7 @@ runs_falls c t at old new y h = runs_by c t (is_expr_stmt (node_of (c.item at)))
 pub rests_falls : (c : Laid) (t : ExprNo → Laid) (p : ℕ) (old new : Standing) (y : Next) → Rests c p old new y → Falls c t old (next.Rest p) new y
 rests_falls c t p old new y h = elim h [
   | inl l ↦ fall (turns_in c t (4 + frames_work c t old.frames) next.Done old new y l.1 (omega arith)) (omega arith) (omega arith)
-  | inr r ↦ fall (frame_in c t (4 + frames_work c t old.frames) (frame.Row r.0) (next.Run r.0) old new y (r.2).0 (r.2).1 (omega arith)) (omega arith) (omega arith)
+  | inr r ↦ fall (frame_in c t (4 + frames_work c t old.frames) (frame.Statements r.0) (next.Run r.0) old new y (r.2).0 (r.2).1 (omega arith)) (omega arith) (omega arith)
 ]
 
 -- ---- behind a value that a statement awaits
@@ -161,7 +161,7 @@ takes_falls c t _ v old new y h = absurd h
 -- ---- behind a statement
 
 pub goes_on_falls : (c : Laid) (t : ExprNo → Laid) (f : Frame) (old new : Standing) (y : Next) → GoesOn c f old new y → Falls c t (with_frame f old) next.Done new y
-goes_on_falls c t (frame.Row p) old new y h = fall (turns_in c t (5 + frames_work c t old.frames) (next.Rest p) old new y h (omega arith)) (omega arith) (omega arith)
+goes_on_falls c t (frame.Statements p) old new y h = fall (turns_in c t (5 + frames_work c t old.frames) (next.Rest p) old new y h (omega arith)) (omega arith) (omega arith)
 goes_on_falls c t frame.Scope old new y h = fall (scoped_in c t (4 + frames_work c t old.frames) c _ next.Done old new y h (omega arith)) (omega arith) (omega arith)
 goes_on_falls c t (frame.Round n p) old new y h = fall (loops_in c t n p old new y h) (omega arith) (omega arith)
 goes_on_falls c t (frame.ForStart p) old new y h = fall (for_loops_in c t most p old new y h) (omega arith) (omega arith)
@@ -169,21 +169,21 @@ goes_on_falls c t (frame.ForRound n p) old new y h = fall (for_updates_in c t n 
 goes_on_falls c t _ old new y h = absurd h
 
 pub gives_falls : (c : Laid) (t : ExprNo → Laid) (f : Frame) (v : Value) (old new : Standing) (y : Next) → Gives c f v old new y → Falls c t (with_frame f old) (next.Give v) new y
-gives_falls c t (frame.Row p) v old new y h = fall (turns_in c t (3 + frames_work c t old.frames) (next.Give v) old new y h (omega arith)) (omega arith) (omega arith)
+gives_falls c t (frame.Statements p) v old new y h = fall (turns_in c t (3 + frames_work c t old.frames) (next.Give v) old new y h (omega arith)) (omega arith) (omega arith)
 gives_falls c t frame.Scope v old new y h = fall (scoped_in c t (3 + frames_work c t old.frames) c _ (next.Give v) old new y h (omega arith)) (omega arith) (omega arith)
 gives_falls c t (frame.Round n p) v old new y h = fall (turns_in c t (3 + frames_work c t old.frames) (next.Give v) old new y h (omega arith)) (omega arith) (omega arith)
 gives_falls c t (frame.ForRound n p) v old new y h = fall (turns_in c t (3 + frames_work c t old.frames) (next.Give v) old new y h (omega arith)) (omega arith) (omega arith)
 gives_falls c t _ v old new y h = absurd h
 
 pub stops_falls : (c : Laid) (t : ExprNo → Laid) (f : Frame) (old new : Standing) (y : Next) → Stops c f old new y → Falls c t (with_frame f old) next.Stop new y
-stops_falls c t (frame.Row p) old new y h = fall (turns_in c t (3 + frames_work c t old.frames) next.Stop old new y h (omega arith)) (omega arith) (omega arith)
+stops_falls c t (frame.Statements p) old new y h = fall (turns_in c t (3 + frames_work c t old.frames) next.Stop old new y h (omega arith)) (omega arith) (omega arith)
 stops_falls c t frame.Scope old new y h = fall (scoped_in c t (3 + frames_work c t old.frames) c _ next.Stop old new y h (omega arith)) (omega arith) (omega arith)
 stops_falls c t (frame.Round n p) old new y h = fall (turns_in c t (4 + frames_work c t old.frames) next.Done old new y h (omega arith)) (omega arith) (omega arith)
 stops_falls c t (frame.ForRound n p) old new y h = fall (turns_in c t (4 + frames_work c t old.frames) next.Done old new y h (omega arith)) (omega arith) (omega arith)
 stops_falls c t _ old new y h = absurd h
 
 pub goes_again_falls : (c : Laid) (t : ExprNo → Laid) (f : Frame) (old new : Standing) (y : Next) → GoesAgain c f old new y → Falls c t (with_frame f old) next.Again new y
-goes_again_falls c t (frame.Row p) old new y h = fall (turns_in c t (3 + frames_work c t old.frames) next.Again old new y h (omega arith)) (omega arith) (omega arith)
+goes_again_falls c t (frame.Statements p) old new y h = fall (turns_in c t (3 + frames_work c t old.frames) next.Again old new y h (omega arith)) (omega arith) (omega arith)
 goes_again_falls c t frame.Scope old new y h = fall (scoped_in c t (3 + frames_work c t old.frames) c _ next.Again old new y h (omega arith)) (omega arith) (omega arith)
 goes_again_falls c t (frame.Round n p) old new y h = fall (loops_in c t n p old new y h) (omega arith) (omega arith)
 goes_again_falls c t (frame.ForRound n p) old new y h = fall (for_updates_in c t n p old new y h) (omega arith) (omega arith)

@@ -462,7 +462,7 @@ pub(crate) fn rested(machine: &mut Machine, tree: &Tree, part: usize) -> Result<
 {
     match next_part(tree, part) {
         None => Ok(Next::Done),
-        Some(next) => added(machine, Frame::Row(next), Next::Run(next)),
+        Some(next) => added(machine, Frame::Statements(next), Next::Run(next)),
     }
 }
 

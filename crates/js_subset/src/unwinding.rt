@@ -28,7 +28,7 @@ pub(crate) fn goes_on(machine: &mut Machine, tree: &Tree, frame: &Frame) -> Resu
     ensures { IfOk result (λ y. GoesOn (laid tree.now) frame.now (standing machine.old) (standing machine.new) y) }
 {
     match frame {
-        Frame::Row(part) => Ok(Next::Rest(*part)),
+        Frame::Statements(part) => Ok(Next::Rest(*part)),
         Frame::Scope => Ok(left(machine, tree, Next::Done)),
         Frame::Round(rounds, test) => looped(machine, *rounds, *test),
         Frame::ForStart(at) => for_looped(machine, tree, MOST, *at),
@@ -50,7 +50,7 @@ pub(crate) fn gives(
     ensures { IfOk result (λ y. Gives (laid tree.now) frame.now value (standing machine.old) (standing machine.new) y) }
 {
     match frame {
-        Frame::Row(_) => Ok(Next::Give(value)),
+        Frame::Statements(_) => Ok(Next::Give(value)),
         Frame::Scope => Ok(left(machine, tree, Next::Give(value))),
         Frame::Round(_, _) => Ok(Next::Give(value)),
         Frame::ForRound(_, _) => Ok(Next::Give(value)),
@@ -63,7 +63,7 @@ pub(crate) fn stops(machine: &mut Machine, tree: &Tree, frame: &Frame) -> Result
     ensures { IfOk result (λ y. Stops (laid tree.now) frame.now (standing machine.old) (standing machine.new) y) }
 {
     match frame {
-        Frame::Row(_) => Ok(Next::Stop),
+        Frame::Statements(_) => Ok(Next::Stop),
         Frame::Scope => Ok(left(machine, tree, Next::Stop)),
         Frame::Round(_, _) => Ok(Next::Done),
         Frame::ForRound(_, _) => Ok(Next::Done),
@@ -80,7 +80,7 @@ pub(crate) fn goes_again(
     ensures { IfOk result (λ y. GoesAgain (laid tree.now) frame.now (standing machine.old) (standing machine.new) y) }
 {
     match frame {
-        Frame::Row(_) => Ok(Next::Again),
+        Frame::Statements(_) => Ok(Next::Again),
         Frame::Scope => Ok(left(machine, tree, Next::Again)),
         Frame::Round(rounds, test) => looped(machine, *rounds, *test),
         Frame::ForRound(rounds, at) => {

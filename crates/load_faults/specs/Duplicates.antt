@@ -9,7 +9,7 @@ use Rattle.qml_types.specs.declared.kind.TypeNo.TheVariants as no
 use Rattle.qml_types.specs.declared.kind.PropKind.{PropKind}
 use Rattle.qml_types.specs.declared.kind.PropKind.TheVariants as kind
 use Rattle.program_names.specs.Names.{is_in}
-use Rattle.program_names.specs.Written.{WrittenMember, an_id, a_property, a_value, a_child, Row}
+use Rattle.program_names.specs.Written.{WrittenMember, an_id, a_property, a_value, a_child, OwnedMember}
 use Rattle.program_names.specs.Loaded.{Program, unit_at}
 use Rattle.program_names.specs.Layers.{Named, NameMeaning, a_cell, is_type, meaning, type_names, own_names, DefaultProperty, to_property, to_children, to_component, default_of}
 use Rattle.program_names.specs.Components.{Roots, Id, ids_written, root_of}
@@ -100,7 +100,7 @@ destinations_of_member p roots d o (a_value at path v) =
 destinations_of_member p roots d o (a_child at n) = destination_of_child p roots d o at (default_of p d o)
 destinations_of_member p roots d o _ = []
 
-abbrev destinations_of_row : Program → Roots → ℕ → Row → List Destination
+abbrev destinations_of_row : Program → Roots → ℕ → OwnedMember → List Destination
 destinations_of_row p roots d r = destinations_of_member p roots d r.object r.member
 
 abbrev same_hops : List (ℕ × ℕ) → List (ℕ × ℕ) → Bool

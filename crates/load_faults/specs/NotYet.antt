@@ -11,7 +11,7 @@ use Rattle.qml_types.specs.declared.kind.TypeRef.{TypeRef}
 use Rattle.qml_types.specs.declared.kind.TypeRef.TheVariants.{Builtin}
 use Rattle.program_names.specs.Names.{is_in}
 use Rattle.program_names.specs.Types.{TypeUse, uses_type, misnames_type}
-use Rattle.program_names.specs.Written.{WrittenMember, a_property, a_signal, a_function, a_value, WrittenValue, by_stmt, Row}
+use Rattle.program_names.specs.Written.{WrittenMember, a_property, a_signal, a_function, a_value, WrittenValue, by_stmt, OwnedMember}
 use Rattle.program_names.specs.Loaded.{Unit, Program, unit_at, type_named}
 use Rattle.program_names.specs.Components.{Roots}
 use Rattle.program_names.specs.PathMeanings.{a_handler, a_property_of}
@@ -208,7 +208,7 @@ abbrev pub stage_of_unit : Program → Roots → ℕ → Stage
 stage_of_unit p roots d =
     let unit = unit_at p d in
     latest (map (stage_of_use p d) unit.uses ++
-    flat_map (λ (r : Row). stages_of_member p roots d r.object r.member) unit.rows ++
+    flat_map (λ (r : OwnedMember). stages_of_member p roots d r.object r.member) unit.rows ++
     flat_map stages_of_function unit.functions)
 
 abbrev stage_from : Program → Roots → ℕ → List Unit → Stage

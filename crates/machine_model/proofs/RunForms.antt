@@ -45,7 +45,7 @@ abbrev pub lines : List Units → List Units
 lines ls = ls
 
 -- what the run of a program's first document tells
-abbrev pub told : ℕ → Program → List ScriptLine → List Units
-told most p script =
+abbrev pub run_tells : ℕ → Program → List ScriptLine → List Units
+run_tells most p script =
     let units = rows_of_program p (roots_of p) in
     map shown_entry (run_of (units ++ rows_of_lines script) 0 (codes "main.qml") most (events_from (length units) script)).machine.trace

@@ -8,7 +8,7 @@ use Rattle.qml_types.specs.declared.kind.TypeNo.TheVariants as no
 use Rattle.qml_types.specs.declared.kind.TypeRef.{TypeRef}
 use Rattle.qml_types.specs.declared.kind.TypeRef.TheVariants.{Builtin}
 use Rattle.program_names.specs.declared.fault.Fault.{Fault}
-use Rattle.program_names.specs.Written.{WrittenMember, Row}
+use Rattle.program_names.specs.Written.{WrittenMember, OwnedMember}
 use Rattle.program_names.specs.Loaded.{Program, Unit as AUnit, unit_at, no_unit}
 use Rattle.program_names.specs.Layers.{is_a, is_type, type_names, own_names, Named}
 use Rattle.program_names.specs.Names.{is_in}
@@ -68,7 +68,7 @@ told_so some others faults e h kept = ap (first_from kept) e ∙ h kept
 document_told : (p : Program) (d : ℕ) (us : List UnitNames) (tree : Table) (names : UnitNames) (rows : List UnitRow) (inside : List Bool) → NamesMean → TypesMean → DeclaredAlike → IdsAlike → RolesAlike
     → Stands p us → slice_get us d ≡ Some names → Tells p d tree names rows inside → ToldAlike (faults_of_rows us d rows inside) (faults_by_names p d)
 document_told p d us tree names rows inside mean types declared ids roles stands e t =
-    let ws : List Row = (unit_at p d).rows in
+    let ws : List OwnedMember = (unit_at p d).rows in
     let says : RowsSay p d t.unit.tree [] rows ws = subst (λ rs. RowsSay p d t.unit.tree [] rs ws) t.made t.unit.says in
     let there : AllThere us d ws = rows_there p d us tree names rows inside e t in
     alike_both (again (by_rows (declared_of us d) rows inside)) (again (by_rows id_of rows inside) ++ again (by_rows (role_of us d) rows inside)) (declared_twice p d) (second_ids p d ++ roles_twice p d)

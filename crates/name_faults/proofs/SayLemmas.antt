@@ -7,7 +7,7 @@ use Rattle.qml_syntax.specs.Tree.{Units}
 use Rattle.qml_syntax.specs.Nodes.{Table}
 use Rattle.qml_types.specs.declared.kind.TypeNo.TheVariants as no
 use Rattle.qml_types.specs.declared.kind.TypeRef.TheVariants.{Builtin}
-use Rattle.program_names.specs.Written.{WrittenMember, WrittenValue, a_value, Row}
+use Rattle.program_names.specs.Written.{WrittenMember, WrittenValue, a_value, OwnedMember}
 use Rattle.program_names.specs.Loaded.{Program}
 use Rattle.program_names.specs.Layers.{is_type}
 use Rattle.document_rows.specs.WholePaths.{path_at}
@@ -33,8 +33,8 @@ Alike us d t f g =
     (before : List Units) (r : UnitRow) → is_there us d r.row.object ≡ true → f (is_filled before) r ≡ g r.row.object (written_in t before r.row.first r.member)
 
 rows_said : (p : Program) (d : ℕ) (us : List UnitNames) (t : Table) (f : Bool → UnitRow → List NameRow) (g : ℕ → WrittenMember → List NameRow) → Alike us d t f g
-    → (grouping : List Bool) (paths : List (List Units)) (rows : List UnitRow) (ws : List Row) → RowsSay p d t paths rows ws → grouping ≡ map is_filled paths → AllThere us d ws
-    → by_rows f rows (insides grouping rows) ≡ flat_map (λ (w : Row). g w.object w.member) ws
+    → (grouping : List Bool) (paths : List (List Units)) (rows : List UnitRow) (ws : List OwnedMember) → RowsSay p d t paths rows ws → grouping ≡ map is_filled paths → AllThere us d ws
+    → by_rows f rows (insides grouping rows) ≡ flat_map (λ (w : OwnedMember). g w.object w.member) ws
 rows_said p d us t f g same grouping paths [] [] s e a = refl
 rows_said p d us t f g same grouping paths [] (w ∷ ws) s e a = absurd s
 rows_said p d us t f g same grouping paths (r ∷ rs) [] s e a = absurd s
@@ -60,8 +60,8 @@ id_said t [] n _ = refl
 id_said t (b ∷ bs) n (m.Id w name at) = refl
 id_said t (b ∷ bs) n _ = refl
 
-pub ids_said : (p : Program) (d : ℕ) (us : List UnitNames) (t : Table) (rows : List UnitRow) (ws : List Row) → RowsSay p d t [] rows ws → AllThere us d ws
-    → by_rows id_of rows (insides [] rows) ≡ flat_map (λ (w : Row). id_rows w.object w.member) ws
+pub ids_said : (p : Program) (d : ℕ) (us : List UnitNames) (t : Table) (rows : List UnitRow) (ws : List OwnedMember) → RowsSay p d t [] rows ws → AllThere us d ws
+    → by_rows id_of rows (insides [] rows) ≡ flat_map (λ (w : OwnedMember). id_rows w.object w.member) ws
 ids_said p d us t rows ws s a =
     rows_said p d us t id_of id_rows (λ before r h. ap (map (owner_row r.row.object)) (id_said t before r.row.first r.member)) [] [] rows ws s refl a
 
@@ -87,8 +87,8 @@ value_said t (b ∷ bs) n _ = refl
 abbrev pub TypesTold : Program → List UnitNames → ℕ → Type 0
 TypesTold p us d = (o : ℕ) → is_there us d o ≡ true → any_of (length us + 1) us (Builtin no.ListElement) (base_in us d o) ≡ is_type p d o no.ListElement
 
-pub roles_said : (p : Program) (d : ℕ) (us : List UnitNames) (t : Table) (rows : List UnitRow) (ws : List Row) → TypesTold p us d → RowsSay p d t [] rows ws → AllThere us d ws
-    → by_rows (role_of us d) rows (insides [] rows) ≡ flat_map (λ (w : Row). role_rows p d w.object w.member) ws
+pub roles_said : (p : Program) (d : ℕ) (us : List UnitNames) (t : Table) (rows : List UnitRow) (ws : List OwnedMember) → TypesTold p us d → RowsSay p d t [] rows ws → AllThere us d ws
+    → by_rows (role_of us d) rows (insides [] rows) ≡ flat_map (λ (w : OwnedMember). role_rows p d w.object w.member) ws
 roles_said p d us t rows ws types s a =
     rows_said p d us t (role_of us d) (role_rows p d)
     (λ before r h.
@@ -117,8 +117,8 @@ same_names p us d o same [] = refl
 same_names p us d o same (x ∷ xs) =
     ap (λ b. with_taken o x b ∷ map (declared_row us d o) xs) (same x.0) ∙ ap (λ ys. row_written p d o x ∷ ys) (same_names p us d o same xs)
 
-pub declared_said : (p : Program) (d : ℕ) (us : List UnitNames) (t : Table) (rows : List UnitRow) (ws : List Row) → NamesTold p us d → RowsSay p d t [] rows ws → AllThere us d ws
-    → by_rows (declared_of us d) rows (insides [] rows) ≡ flat_map (λ (w : Row). declared_rows p d w.object w.member) ws
+pub declared_said : (p : Program) (d : ℕ) (us : List UnitNames) (t : Table) (rows : List UnitRow) (ws : List OwnedMember) → NamesTold p us d → RowsSay p d t [] rows ws → AllThere us d ws
+    → by_rows (declared_of us d) rows (insides [] rows) ≡ flat_map (λ (w : OwnedMember). declared_rows p d w.object w.member) ws
 declared_said p d us t rows ws names s a =
     rows_said p d us t (declared_of us d) (declared_rows p d)
     (λ before r h.

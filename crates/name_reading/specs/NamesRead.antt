@@ -10,7 +10,7 @@ use Rattle.program_names.specs.declared.fault.Fault.{Fault}
 use Rattle.program_names.specs.Paths.{Path}
 use Rattle.program_names.specs.Types.{TypeUse, uses_type, misnames_type, TypeFound, built_in, in_file}
 use Rattle.program_names.specs.Reading.{File, Sources, fault, first_of, ReadFile, refused_by, mentioning}
-use Rattle.document_imports.specs.Imports.{Row, Source, a_module, a_directory, a_script}
+use Rattle.document_imports.specs.Imports.{WrittenImport, Source, a_module, a_directory, a_script}
 use Rattle.type_search.specs.Search.{Exists, is_file, searched}
 use Rattle.read_order.specs.declared.file.FileRead.{FileRead}
 use Rattle.read_order.specs.Order.{read_of}
@@ -22,10 +22,10 @@ fault_of_source p (a_module name) = if is_offering offers name then None else So
 fault_of_source p (a_directory path) = None
 fault_of_source p (a_script path) = None
 
-abbrev pub fault_of_row : Row → Option Fault
+abbrev pub fault_of_row : WrittenImport → Option Fault
 fault_of_row r = fault_of_source r.at r.source
 
-abbrev pub module_fault : List Row → Option Fault
+abbrev pub module_fault : List WrittenImport → Option Fault
 module_fault rows = first_of (filter_map fault_of_row rows)
 
 -- ---- scripts
@@ -35,15 +35,15 @@ script_of_source (a_module name) = None
 script_of_source (a_directory path) = None
 script_of_source (a_script path) = Some (record { is_script = true; path = path })
 
-abbrev pub script_of_row : Row → Option File
+abbrev pub script_of_row : WrittenImport → Option File
 script_of_row r = script_of_source r.source
 
-abbrev pub scripts_of : List Row → List File
+abbrev pub scripts_of : List WrittenImport → List File
 scripts_of rows = filter_map script_of_row rows
 
 -- ---- types
 
-abbrev pub found_use : Exists → Path → List Row → TypeUse → Option TypeFound
+abbrev pub found_use : Exists → Path → List WrittenImport → TypeUse → Option TypeFound
 found_use exists here rows (uses_type p q n) = searched exists here rows q n
 found_use exists here rows (misnames_type p) = None
 
@@ -56,7 +56,7 @@ file_of (built_in t) = None
 file_of (in_file path) = Some (record { is_script = false; path = path })
 
 -- behind what is mentioned before these uses
-abbrev pub uses_read : Exists → Path → List Row → List File → List TypeUse → ReadFile
+abbrev pub uses_read : Exists → Path → List WrittenImport → List File → List TypeUse → ReadFile
 uses_read exists here rows before [] = mentioning before
 uses_read exists here rows before (u ∷ us) = elim (found_use exists here rows u) [
   | None ↦ refused_by (fault (place_of_use u) cause.UnknownType)
@@ -67,7 +67,7 @@ abbrev pub names_by : Option Fault → ReadFile → ReadFile
 names_by (Some f) how = refused_by f
 names_by None how = how
 
-abbrev pub names_read : Exists → Path → List Row → List TypeUse → ReadFile
+abbrev pub names_read : Exists → Path → List WrittenImport → List TypeUse → ReadFile
 names_read exists here rows uses = names_by (module_fault rows) (uses_read exists here rows (scripts_of rows) uses)
 
 -- reading has come to what this says for all sources that what is known allows

@@ -9,7 +9,7 @@ use Rattle.std.proofs.lemmas.List.{map-append}
 use Rattle.std.proofs.lemmas.List.Sums.{sum_by-cons}
 use Rattle.qml_syntax.specs.Tree.{Units}
 use Rattle.qml_syntax.specs.Nodes.{Table}
-use Rattle.program_names.specs.Written.{WrittenObject, WrittenMember, an_alias, Row}
+use Rattle.program_names.specs.Written.{WrittenObject, WrittenMember, an_alias, OwnedMember}
 use Rattle.program_names.specs.Loaded.{Program, Unit as AUnit, unit_at, object_at, no_object, no_unit}
 use Rattle.document_rows.specs.WholePaths.{path_at}
 use Rattle.document_rows.specs.WrittenObjects.{kept, members_of_object}
@@ -32,7 +32,7 @@ abbrev one : WrittenMember → ℕ
 one (an_alias q c n at t v) = 1
 one _ = 0
 
-abbrev written : List Row → ℕ
+abbrev written : List OwnedMember → ℕ
 written [] = 0
 written (w ∷ ws) = one w.member + written ws
 
@@ -68,7 +68,7 @@ by_member o t (n ∷ ns) first (m.Id w name at) = refl
 by_member o t [] first _ = refl
 by_member o t (n ∷ ns) first _ = refl
 
-count_rows : (p : Program) (u : ℕ) (t : Table) (grouping : List Bool) (paths : List (List Units)) (rows : List UnitRow) (ws : List Row) → RowsSay p u t paths rows ws → grouping ≡ map is_filled paths
+count_rows : (p : Program) (u : ℕ) (t : Table) (grouping : List Bool) (paths : List (List Units)) (rows : List UnitRow) (ws : List OwnedMember) → RowsSay p u t paths rows ws → grouping ≡ map is_filled paths
     → told_count (aliases_told grouping rows) ≡ written ws
 count_rows p u t grouping paths [] [] h e = refl
 count_rows p u t grouping paths [] (w ∷ ws) h e = absurd h
@@ -103,7 +103,7 @@ count_one _ rest = nothing (count_aliases rest)
     nothing n = omega arith
 
 -- in the n objects from number o on
-abbrev in_objects : ℕ → ℕ → List Row → ℕ
+abbrev in_objects : ℕ → ℕ → List OwnedMember → ℕ
 in_objects o zero ws = 0
 in_objects o (suc n) ws = count_aliases (members_of_object o ws) + in_objects (suc o) n ws
 
@@ -111,7 +111,7 @@ abbrev owned : ℕ → ℕ → ℕ → ℕ → ℕ
 owned o zero k x = 0
 owned o (suc n) k x = (if nat_eq k o then x else 0) + owned (suc o) n k x
 
-kept_count : (o : ℕ) (w : Row) (rest : List WrittenMember) → count_aliases (kept o w ++ rest) ≡ (if nat_eq w.object o then one w.member else 0) + count_aliases rest
+kept_count : (o : ℕ) (w : OwnedMember) (rest : List WrittenMember) → count_aliases (kept o w ++ rest) ≡ (if nat_eq w.object o then one w.member else 0) + count_aliases rest
 kept_count o w rest = by_test (nat_eq w.object o)
   where
     nothing : (n : ℕ) → n ≡ 0 + n
@@ -124,7 +124,7 @@ kept_count o w rest = by_test (nat_eq w.object o)
 swapped : (a b c d : ℕ) → (a + b) + (c + d) ≡ (a + c) + (b + d)
 swapped a b c d = omega arith
 
-one_row : (o n : ℕ) (w : Row) (ws : List Row) → in_objects o n (w ∷ ws) ≡ owned o n w.object (one w.member) + in_objects o n ws
+one_row : (o n : ℕ) (w : OwnedMember) (ws : List OwnedMember) → in_objects o n (w ∷ ws) ≡ owned o n w.object (one w.member) + in_objects o n ws
 one_row o zero w ws = refl
 one_row o (suc n) w ws =
     ap (λ c. c + in_objects (suc o) n (w ∷ ws)) (kept_count o w (members_of_object o ws)) ∙
@@ -154,7 +154,7 @@ some_owned o (suc n) k x h g = by_test (λ a c. some_owned (suc o) n k x a c) (n
     by_test rest true e = first x (owned (suc o) n k x)
     by_test rest false e = second x (owned (suc o) n k x) (rest (further o k h e) (moved o n k g))
 
-at_most : (n : ℕ) (ws : List Row) → ((k : ℕ) (w : Row) → slice_get ws k ≡ Some w → w.object < n) → written ws ≤ in_objects 0 n ws
+at_most : (n : ℕ) (ws : List OwnedMember) → ((k : ℕ) (w : OwnedMember) → slice_get ws k ≡ Some w → w.object < n) → written ws ≤ in_objects 0 n ws
 at_most n [] h = nothing_less (in_objects 0 n [])
   where
     nothing_less : (k : ℕ) → 0 ≤ k
@@ -173,7 +173,7 @@ at_most n (w ∷ ws) h =
     below : (k n : ℕ) → k < n → k < 0 + n
     below k n h = omega arith
 
-in_all : (ws : List Row) (o : ℕ) (objects : List WrittenObject) → ((k : ℕ) (w : WrittenObject) → slice_get objects k ≡ Some w → w.members ≡ members_of_object (o + k) ws)
+in_all : (ws : List OwnedMember) (o : ℕ) (objects : List WrittenObject) → ((k : ℕ) (w : WrittenObject) → slice_get objects k ≡ Some w → w.members ≡ members_of_object (o + k) ws)
     → in_objects o (length objects) ws ≡ sum_by (λ (w : WrittenObject). count_aliases w.members) objects
 in_all ws o [] h = refl
 in_all ws o (w ∷ objects) h =
@@ -195,7 +195,7 @@ object_there p u o w e = ap (λ x. (unwrap_or x no_object).members) e
 
 pub few_in_unit : (p : Program) (u : ℕ) (t : Table) (rows : List UnitRow) (own : List (Option Alias)) → RowsSay p u t [] rows (unit_at p u).rows → map said own ≡ aliases_told [] rows
     → ((o : ℕ) → (object_at p u o).members ≡ members_of_object o (unit_at p u).rows)
-    → ((k : ℕ) (w : Row) → slice_get (unit_at p u).rows k ≡ Some w → w.object < length (unit_at p u).objects) → count_in own ≤ aliases_of_unit (unit_at p u)
+    → ((k : ℕ) (w : OwnedMember) → slice_get (unit_at p u).rows k ≡ Some w → w.object < length (unit_at p u).objects) → count_in own ≤ aliases_of_unit (unit_at p u)
 few_in_unit p u t rows own says told members range =
     subst (λ n. n ≤ aliases_of_unit (unit_at p u)) (sym (count_said own ∙ ap told_count told ∙ count_rows p u t [] [] rows (unit_at p u).rows says refl))
     (subst (λ n. written (unit_at p u).rows ≤ n)
@@ -241,7 +241,7 @@ in_list (y ∷ xs) (suc k) x e = let less : k < length xs = in_list xs k x e in 
 
 pub few_aliases : (p : Program) (us : List UnitNames) (aliases : List UnitAliases) → length us ≡ length p → length aliases ≡ length p
     → ((u : ℕ) (unit : UnitNames) → slice_get us u ≡ Some unit → SaysUnit p aliases u unit)
-    → ((u k : ℕ) (w : Row) → slice_get (unit_at p u).rows k ≡ Some w → w.object < length (unit_at p u).objects) → count_of aliases ≤ sum_by aliases_of_unit p
+    → ((u k : ℕ) (w : OwnedMember) → slice_get (unit_at p u).rows k ≡ Some w → w.object < length (unit_at p u).objects) → count_of aliases ≤ sum_by aliases_of_unit p
 few_aliases p us aliases l n says range = few_in_all aliases p n one_unit
   where
     one_unit : (u : ℕ) (a : UnitAliases) (v : AUnit) → slice_get aliases u ≡ Some a → slice_get p u ≡ Some v → count_in a.rows.items ≤ aliases_of_unit v

@@ -13,7 +13,7 @@ use Rattle.qml_types.specs.declared.kind.PropKind.{PropKind}
 use Rattle.qml_types.specs.declared.kind.TypeRef.{TypeRef}
 use Rattle.program_names.specs.Names.{changed}
 use Rattle.program_names.specs.Layers.{access_of}
-use Rattle.program_names.specs.Written.{WrittenMember, an_id, Row}
+use Rattle.program_names.specs.Written.{WrittenMember, an_id, OwnedMember}
 use Rattle.program_names.specs.Loaded.{Program, unit_at}
 use Rattle.program_names.specs.Components.{Roots, root_of, is_known, Id, id_in}
 use Rattle.document_rows.specs.WholePaths.{path_at}
@@ -173,8 +173,8 @@ by_member o t (n ∷ ns) first (m.Id w name at) s i = none_some s i
 by_member o t [] first _ s i = none_some s i
 by_member o t (n ∷ ns) first _ s i = none_some s i
 
-target_told : (p : Program) (u : ℕ) (t : Table) (grouping : List Bool) (paths : List (List Units)) (rows : List UnitRow) (ws : List Row) → RowsSay p u t paths rows ws → grouping ≡ map is_filled paths
-    → (row : ℕ) (s : SaidAlias) → slice_get (aliases_told grouping rows) row ≡ Some (Some s) → s.target ≡ target_in (option_map (λ (w : Row). w.member) (slice_get ws row))
+target_told : (p : Program) (u : ℕ) (t : Table) (grouping : List Bool) (paths : List (List Units)) (rows : List UnitRow) (ws : List OwnedMember) → RowsSay p u t paths rows ws → grouping ≡ map is_filled paths
+    → (row : ℕ) (s : SaidAlias) → slice_get (aliases_told grouping rows) row ≡ Some (Some s) → s.target ≡ target_in (option_map (λ (w : OwnedMember). w.member) (slice_get ws row))
 target_told p u t grouping paths [] ws h e row s i = none_some (Some s) i
 target_told p u t grouping paths (r ∷ rs) [] h e row s i = absurd h
 target_told p u t grouping paths (r ∷ rs) (w ∷ ws) h e zero s i =
@@ -240,7 +240,7 @@ abbrev with_id : ℕ → WrittenMember → List Id → List Id
 with_id o (an_id word name at) rest = record { word = word; name = name; at = at; object = o } ∷ rest
 with_id o w rest = rest
 
-abbrev ids_of_rows : List Row → List Id
+abbrev ids_of_rows : List OwnedMember → List Id
 ids_of_rows [] = []
 ids_of_rows (r ∷ rest) = with_id r.object r.member (ids_of_rows rest)
 
@@ -253,7 +253,7 @@ first_among p roots d root name ids = first_of (filter (stands_in p roots d root
 in_program : (p : Program) (roots : Roots) (d root : ℕ) (name : Units) → first_among p roots d root name (ids_of_rows (unit_at p d).rows) ≡ id_in p roots d root name
 in_program p roots d root name = refl
 
-one_held : (P : ℕ → Type 0) (p : Program) (roots : Roots) (d root : ℕ) (name : Units) (w : Row) (ws : List Row) (t : ℕ) → P w.object
+one_held : (P : ℕ → Type 0) (p : Program) (roots : Roots) (d root : ℕ) (name : Units) (w : OwnedMember) (ws : List OwnedMember) (t : ℕ) → P w.object
     → (first_among p roots d root name (ids_of_rows ws) ≡ Some t → P t) → (x : WrittenMember) → first_among p roots d root name (with_id w.object x (ids_of_rows ws)) ≡ Some t → P t
 one_held P p roots d root name w ws t h rest (an_id word n at) j = by_stand (is_known p roots d w.object && nat_eq (root_of p roots d w.object) root) j
   where
@@ -268,7 +268,7 @@ one_held P p roots d root name w ws t h rest (an_id word n at) j = by_stand (is_
 one_held P p roots d root name w ws t h rest _ j = rest j
 
 -- the object that is found is one of which something holds that holds of all
-first_holds : (P : ℕ → Type 0) (p : Program) (roots : Roots) (d root : ℕ) (name : Units) (ws : List Row) → ((k : ℕ) (w : Row) → slice_get ws k ≡ Some w → P w.object)
+first_holds : (P : ℕ → Type 0) (p : Program) (roots : Roots) (d root : ℕ) (name : Units) (ws : List OwnedMember) → ((k : ℕ) (w : OwnedMember) → slice_get ws k ≡ Some w → P w.object)
     → (t : ℕ) → first_among p roots d root name (ids_of_rows ws) ≡ Some t → P t
 first_holds P p roots d root name [] h t i = none_some t i
 first_holds P p roots d root name (w ∷ ws) h t i =

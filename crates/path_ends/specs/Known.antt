@@ -4,7 +4,7 @@ use Rattle.std.specs.List.{sum_by}
 use Rattle.name_table.specs.Named.{under}
 use Rattle.qml_syntax.specs.Tree.{Units}
 use Rattle.qml_syntax.specs.Nodes.{Table}
-use Rattle.program_names.specs.Written.{WrittenObject, WrittenMember, an_alias, Row}
+use Rattle.program_names.specs.Written.{WrittenObject, WrittenMember, an_alias, OwnedMember}
 use Rattle.program_names.specs.Loaded.{Program, Unit as AUnit, unit_at}
 use Rattle.program_names.specs.Components.{Roots, root_of, id_in}
 use Rattle.program_names.specs.PathMeanings.{Way, PathEnd, at_object, in_circle}
@@ -129,4 +129,4 @@ pub record SaysIds (p : Program) (roots : Roots) (us : List UnitNames) (ids : Li
   pub long : length own.roots.items ≡ length unit.objects.items
   pub told_roots : (o : ℕ) → o < length own.roots.items →
       (root_at own.roots.items o ≡ root_of p roots u o) × (root_at own.roots.items o < length own.roots.items)
-  pub there : (k : ℕ) (w : Row) → slice_get (unit_at p u).rows k ≡ Some w → is_there us u w.object ≡ true
+  pub there : (k : ℕ) (w : OwnedMember) → slice_get (unit_at p u).rows k ≡ Some w → is_there us u w.object ≡ true

@@ -2,7 +2,7 @@
 
 ghost use Rattle.std.specs.Prelude.{◌≡◌, ◌<◌, ◌≤◌, ℕ, true, Some, List, length, slice_get};
 ghost use Rattle.std.specs.List.{sum_by};
-ghost use Rattle.program_names.specs.Written.{Row};
+ghost use Rattle.program_names.specs.Written.{OwnedMember};
 ghost use Rattle.program_names.specs.Loaded.{Program, unit_at};
 ghost use Rattle.program_names.specs.Components.{Roots};
 ghost use Rattle.program_names.specs.PathMeanings.{SeenObject, at_object, end_of, end_of_alias};
@@ -28,7 +28,7 @@ pub fn aliases_of_rows_are_few()
     ensures { (p : Program) (names : List n.UnitNames) (aliases : List u.UnitAliases) →
         length names ≡ length p → length aliases ≡ length p →
         ((d : ℕ) (unit : n.UnitNames) → slice_get names d ≡ Some unit → SaysUnit p aliases d unit) →
-        ((d k : ℕ) (w : Row) → slice_get (unit_at p d).rows k ≡ Some w → w.object < length (unit_at p d).objects) →
+        ((d k : ℕ) (w : OwnedMember) → slice_get (unit_at p d).rows k ≡ Some w → w.object < length (unit_at p d).objects) →
         count_of aliases ≤ sum_by aliases_of_unit p }
 {}
 

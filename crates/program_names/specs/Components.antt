@@ -5,7 +5,7 @@ use Rattle.std.specs.Option.{option_map, is_some, unwrap_or}
 use Rattle.std.specs.List.{filter}
 use Rattle.qml_base.specs.declared.numbers.Place.{Place}
 use Rattle.qml_syntax.specs.Tree.{Units}
-use Rattle.program_names.specs.Written.{WrittenMember, an_id, Row, WrittenAs, as_root, as_child, as_value}
+use Rattle.program_names.specs.Written.{WrittenMember, an_id, OwnedMember, WrittenAs, as_root, as_child, as_value}
 use Rattle.program_names.specs.Loaded.{Program, unit_at, object_at}
 
 -- Of an object: whether it is the root of a component inside its document, where that is known. Such roots are what a
@@ -77,7 +77,7 @@ abbrev with_id : ℕ → WrittenMember → List Id → List Id
 with_id o (an_id word name at) rest = record { word = word; name = name; at = at; object = o } ∷ rest
 with_id o m rest = rest
 
-abbrev ids_of_rows : List Row → List Id
+abbrev ids_of_rows : List OwnedMember → List Id
 ids_of_rows [] = []
 ids_of_rows (r ∷ rest) = with_id r.object r.member (ids_of_rows rest)
 

@@ -11,7 +11,7 @@ use Rattle.qml_types.specs.declared.kind.PropKind.TheVariants as kind
 use Rattle.qml_types.specs.Kinds.{basic_kind, kind_of_type}
 use Rattle.program_names.specs.Paths.{Path, directory_of}
 use Rattle.program_names.specs.Types.{TypeUse, type_uses, TypeFound, built_in, in_file, found_type}
-use Rattle.program_names.specs.Written.{WrittenObject, as_root, objects_of, Row, rows_of}
+use Rattle.program_names.specs.Written.{WrittenObject, as_root, objects_of, OwnedMember, rows_of}
 use Rattle.program_names.specs.Reading.{File, Source, is_document, is_script, Sources, same_file}
 
 -- one of them: its file, its imports, its objects, their members in the order of writing, and the types that it uses; of
@@ -20,7 +20,7 @@ pub record Unit : Type 0 where
   pub file : File
   pub imports : List Import
   pub objects : List WrittenObject
-  pub rows : List Row
+  pub rows : List OwnedMember
   pub uses : List TypeUse
   pub functions : List Function
 

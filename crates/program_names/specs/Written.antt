@@ -154,24 +154,24 @@ abbrev mutual
 -- ---- the members of all objects in the order of writing
 
 -- a member with the number of its object
-pub record Row : Type 0 where
+pub record OwnedMember : Type 0 where
   pub object : ℕ
   pub member : WrittenMember
 
-abbrev pub row : ℕ → WrittenMember → Row
+abbrev pub row : ℕ → WrittenMember → OwnedMember
 row o m = record { object = o; member = m }
 
 abbrev mutual
-  pub rows_of : ℕ → Object → List Row
+  pub rows_of : ℕ → Object → List OwnedMember
   rows_of n (object t ms) = rows_of_members n [] (suc n) ms
 
-  pub rows_of_members : ℕ → List Units → ℕ → Members → List Row
+  pub rows_of_members : ℕ → List Units → ℕ → Members → List OwnedMember
   rows_of_members o before n no_members = []
   rows_of_members o before n (a_member m b ms) =
       row o (member_from before n m) ∷ rows_in o before n m ++ rows_of_members o before (n + count_member m) ms
 
   -- those in a member, behind its own
-  pub rows_in : ℕ → List Units → ℕ → Member → List Row
+  pub rows_in : ℕ → List Units → ℕ → Member → List OwnedMember
   rows_in o before n (id p name q c) = []
   rows_in o before n (property p a k name q v) = rows_of_value n v
   rows_in o before n (bare p a k name q c) = []
@@ -182,11 +182,11 @@ abbrev mutual
   rows_in o before n (group name p ns ms) = rows_of_members o (before ++ name ∷ ns) n ms
   rows_in o before n (child c) = rows_of n c
 
-  pub rows_of_value : ℕ → Value → List Row
+  pub rows_of_value : ℕ → Value → List OwnedMember
   rows_of_value n (value_object c) = rows_of n c
   rows_of_value n (value_list p os) = rows_of_list n os
   rows_of_value n (value_stmt s) = []
 
-  pub rows_of_list : ℕ → Objects → List Row
+  pub rows_of_list : ℕ → Objects → List OwnedMember
   rows_of_list n (last_object c) = rows_of n c
   rows_of_list n (an_object c os) = rows_of n c ++ rows_of_list (n + count_object c) os

@@ -2,7 +2,7 @@
 use Rattle.std.specs.Prelude.{◌≡◌, ◌<◌, ℕ, suc, List, [], ◌∷◌, map, length, slice_get, Option, Some, None}
 use Rattle.std.specs.declared.alloc.Global.{Global}
 use Rattle.std.specs.declared.vec.Vec.{Vec}
-use Rattle.program_names.specs.Written.{Row}
+use Rattle.program_names.specs.Written.{OwnedMember}
 use Rattle.program_names.specs.Reading.{File, Source}
 use Rattle.program_names.specs.Loaded.{Program, unit_at, unit_of}
 use Rattle.program_tables.specs.declared.names.UnitNames.{UnitNames}
@@ -67,4 +67,4 @@ pub record SourceSays (p : Program) (us : List UnitNames) (sources : List UnitSo
   pub long : length own.objects.items ≡ length unit.objects.items
 
 abbrev pub RowsInRange : Program → Type 0
-RowsInRange p = (d k : ℕ) (w : Row) → slice_get (unit_at p d).rows k ≡ Some w → w.object < length (unit_at p d).objects
+RowsInRange p = (d k : ℕ) (w : OwnedMember) → slice_get (unit_at p d).rows k ≡ Some w → w.object < length (unit_at p d).objects

@@ -17,7 +17,7 @@ use Rattle.std.proofs.lemmas.Bool.{false≢true}
 use Rattle.qml_types.specs.declared.kind.TypeRef.{TypeRef}
 use Rattle.qml_types.specs.declared.kind.TypeRef.TheVariants.{Document as OfDocument}
 use Rattle.program_names.specs.Names.{changed}
-use Rattle.program_names.specs.Written.{WrittenMember, WrittenValue, a_property, an_id, an_alias, a_signal, a_function, Row}
+use Rattle.program_names.specs.Written.{WrittenMember, WrittenValue, a_property, an_id, an_alias, a_signal, a_function, OwnedMember}
 use Rattle.program_names.specs.Loaded.{Program, unit_at, object_at, type_of_object, kind_named}
 use Rattle.program_names.specs.Layers.{DefaultProperty, of_object, cells_of_layer, own_names, NameMeaning, a_cell, a_signal_of, a_function_of, an_alias_of, access_of, Named, meaning_in}
 use Rattle.document_rows.specs.WholePaths.{path_at}
@@ -239,7 +239,7 @@ leave : (b own : Bool) (f : ObjectNames → ObjectNames) (x : ObjectNames) → o
 leave true own f x e = refl
 leave false own f x e = ap (λ c. if c then f x else x) (sym e)
 
-of_row : (p : Program) (u o : ℕ) (t : Table) (i : ℕ) (before : List Units) (b : Bool) (r : UnitRow) (w : Row) (x : ObjectNames) → SaysRow p u t before r w → b ≡ is_filled before
+of_row : (p : Program) (u o : ℕ) (t : Table) (i : ℕ) (before : List Units) (b : Bool) (r : UnitRow) (w : OwnedMember) (x : ObjectNames) → SaysRow p u t before r w → b ≡ is_filled before
     → member_at p u i ≡ Some w.member → Adds p u o x (changes_object b (nat_eq r.row.object o) (declared i r.kind r.member) x) (kept o w)
 of_row p u o t i before b r w x s e there = cases (nat_eq r.row.object o) refl
   where
@@ -303,13 +303,13 @@ then_adds p u o x y z a b h g = record {
 }
 
 -- the rows of a document from one on
-abbrev RowsFrom : Program → ℕ → ℕ → List Row → Type 0
+abbrev RowsFrom : Program → ℕ → ℕ → List OwnedMember → Type 0
 RowsFrom p u i ws = (k : ℕ) → slice_get (unit_at p u).rows (i + k) ≡ slice_get ws k
 
 one_on : (i k : ℕ) → suc i + k ≡ i + suc k
 one_on i k = omega arith
 
-all_rows : (p : Program) (u o : ℕ) (t : Table) (i : ℕ) (grouping : List Bool) (paths : List (List Units)) (rows : List UnitRow) (ws : List Row) (x : ObjectNames)
+all_rows : (p : Program) (u o : ℕ) (t : Table) (i : ℕ) (grouping : List Bool) (paths : List (List Units)) (rows : List UnitRow) (ws : List OwnedMember) (x : ObjectNames)
     → RowsSay p u t paths rows ws → grouping ≡ map is_filled paths → RowsFrom p u i ws → Adds p u o x (object_added i grouping rows o x) (members_of_object o ws)
 all_rows p u o t i grouping paths [] [] x s e l = nothing_added p u o x
 all_rows p u o t i grouping paths [] (w ∷ ws) x s e l = absurd s
@@ -318,7 +318,7 @@ all_rows p u o t i grouping paths (r ∷ rs) (w ∷ ws) x s e l =
     let before = path_at paths r.row.group in
     let inside : is_inside grouping r.row.group ≡ is_filled before = ap (λ g. is_inside g r.row.group) e ∙ inside_alike paths r.row.group in
     then_adds p u o x (changes_object (is_inside grouping r.row.group) (nat_eq r.row.object o) (declared i r.kind r.member) x) _ (kept o w) (members_of_object o ws)
-    (of_row p u o t i before (is_inside grouping r.row.group) r w x s.0 inside (ap (option_map (λ (q : Row). q.member)) (ap (slice_get (unit_at p u).rows) (no_more_cells i) ∙ l 0)))
+    (of_row p u o t i before (is_inside grouping r.row.group) r w x s.0 inside (ap (option_map (λ (q : OwnedMember). q.member)) (ap (slice_get (unit_at p u).rows) (no_more_cells i) ∙ l 0)))
     (all_rows p u o t (suc i) (grouping ++ (is_inside grouping r.row.group || is_group r.member) ∷ []) (paths ++ (before ++ added_by r.member) ∷ []) rs ws
     (changes_object (is_inside grouping r.row.group) (nat_eq r.row.object o) (declared i r.kind r.member) x) s.1
     (ap (λ g. g ++ (is_inside grouping r.row.group || is_group r.member) ∷ []) e ∙

@@ -4,7 +4,7 @@ use Rattle.qml_syntax.specs.Tree.{Units}
 use Rattle.qml_syntax.specs.Nodes.{Table}
 use Rattle.qml_syntax.specs.Places.{part_at}
 use Rattle.qml_types.specs.declared.kind.PropKind.{PropKind}
-use Rattle.program_names.specs.Written.{Row}
+use Rattle.program_names.specs.Written.{OwnedMember}
 use Rattle.program_names.specs.Loaded.{Program, unit_at, object_at, type_of_object, kind_named}
 use Rattle.document_rows.specs.declared.rows.MemberRow.{MemberRow}
 use Rattle.document_rows.specs.WholePaths.{path_at}
@@ -24,13 +24,13 @@ SaysKind p u t (m.Property q a k n at v) kind = kind ≡ kind_named p u (kind_in
 SaysKind p u t _ kind = Unit {0}
 
 -- a row of the tree t says this member, where these are the names of the groups around it
-pub record SaysRow (p : Program) (u : ℕ) (t : Table) (before : List Units) (r : UnitRow) (w : Row) : Type 0 where
+pub record SaysRow (p : Program) (u : ℕ) (t : Table) (before : List Units) (r : UnitRow) (w : OwnedMember) : Type 0 where
   pub object : r.row.object ≡ w.object
   pub member : written_in t before r.row.first r.member ≡ w.member
   pub kind : SaysKind p u t r.member r.kind
 
 -- these rows, behind others whose paths these are, say these members
-abbrev pub RowsSay : Program → ℕ → Table → List (List Units) → List UnitRow → List Row → Type 0
+abbrev pub RowsSay : Program → ℕ → Table → List (List Units) → List UnitRow → List OwnedMember → Type 0
 RowsSay p u t paths [] [] = Unit {0}
 RowsSay p u t paths (r ∷ rs) (w ∷ ws) =
     SaysRow p u t (path_at paths r.row.group) r w ×

@@ -11,7 +11,7 @@ use Rattle.qml_types.specs.Table.{TypeCell, cells_of}
 use Rattle.qml_syntax.specs.Tree.{Units, Function, function, no_pars, no_stmts}
 use Rattle.qml_base.specs.declared.numbers.UnitNo.{UnitNo}
 use Rattle.qml_types.specs.declared.kind.TypeRef.TheVariants.{Document as OfDocument}
-use Rattle.program_names.specs.Written.{WrittenMember, a_property, an_alias, a_signal, a_function, Row}
+use Rattle.program_names.specs.Written.{WrittenMember, a_property, an_alias, a_signal, a_function, OwnedMember}
 use Rattle.program_names.specs.Loaded.{Program, unit_at, object_at, type_of_object}
 use Rattle.program_names.specs.Layers.{DefaultProperty, no_default, to_property, to_children, to_component, to_rows, of_object, cells_of_layer, NameMeaning, a_cell, a_signal_of, a_function_of, an_alias_of, own_names, meaning_in}
 use Rattle.program_tables.specs.declared.names.DefaultPlace.{DefaultPlace}
@@ -25,7 +25,7 @@ use Rattle.program_tables.specs.Walk.{object_in, meaning_of}
 
 -- the member of a row of a document
 abbrev pub member_at : Program → ℕ → ℕ → Option WrittenMember
-member_at p u row = option_map (λ (r : Row). r.member) (slice_get (unit_at p u).rows row)
+member_at p u row = option_map (λ (r : OwnedMember). r.member) (slice_get (unit_at p u).rows row)
 
 abbrev pub nowhere : Place
 nowhere = record { line = 0; column = 0 }

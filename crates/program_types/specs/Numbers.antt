@@ -8,7 +8,7 @@ use Rattle.program_names.specs.Paths.{Path}
 use Rattle.program_names.specs.Types.{TypeFound, built_in, in_file}
 use Rattle.program_names.specs.Reading.{File, same_file}
 use Rattle.program_names.specs.Loaded.{Unit, Program}
-use Rattle.document_imports.specs.Imports.{Row}
+use Rattle.document_imports.specs.Imports.{WrittenImport}
 use Rattle.type_search.specs.Search.{searched}
 
 abbrev pub files_in : Program → List File
@@ -37,6 +37,6 @@ type_of_found files (built_in t) = Some (Builtin t)
 type_of_found files (in_file path) = option_map document_type (document_in files path)
 
 -- the type that a name finds in a document of a directory with these imports
-abbrev pub type_in : List File → Path → List Row → Option Units → Units → Option TypeRef
+abbrev pub type_in : List File → Path → List WrittenImport → Option Units → Units → Option TypeRef
 type_in files here rows qualifier name =
     option_and_then (type_of_found files) (searched (is_document_in files) here rows qualifier name)

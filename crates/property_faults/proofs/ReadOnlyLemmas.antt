@@ -8,7 +8,7 @@ use Rattle.qml_syntax.specs.Tree.{Units}
 use Rattle.qml_syntax.specs.Nodes.{Table}
 use Rattle.qml_syntax.specs.Opened.{IsListing}
 use Rattle.program_names.specs.declared.fault.Fault.{Fault}
-use Rattle.program_names.specs.Written.{WrittenMember, Row}
+use Rattle.program_names.specs.Written.{WrittenMember, OwnedMember}
 use Rattle.program_names.specs.Loaded.{Program, unit_at}
 use Rattle.program_names.specs.Layers.{DefaultProperty, no_default, to_property, to_children, to_component, to_rows, default_of}
 use Rattle.program_names.specs.Components.{Roots}
@@ -80,8 +80,8 @@ member_told p roots d o t lists (b ∷ bs) n _ g e = refl
 -- ---- all rows
 
 rows_said : (p : Program) (roots : Roots) (d : ℕ) (t : Table) → IsListing t
-    → (grouping : List Bool) (paths : List (List Units)) (rows : List UnitRow) (ws : List Row) (gs : List GivenFor) → RowsSay p d t paths rows ws → AllGiven p roots d gs ws
-    → grouping ≡ map is_filled paths → by_rows (read_only_row t) rows (insides grouping rows) gs ≡ flat_map (λ (w : Row). read_only_member p roots d w.object w.member) ws
+    → (grouping : List Bool) (paths : List (List Units)) (rows : List UnitRow) (ws : List OwnedMember) (gs : List GivenFor) → RowsSay p d t paths rows ws → AllGiven p roots d gs ws
+    → grouping ≡ map is_filled paths → by_rows (read_only_row t) rows (insides grouping rows) gs ≡ flat_map (λ (w : OwnedMember). read_only_member p roots d w.object w.member) ws
 rows_said p roots d t lists grouping paths [] [] gs s g e = refl
 rows_said p roots d t lists grouping paths [] (w ∷ ws) gs s g e = absurd s
 rows_said p roots d t lists grouping paths (r ∷ rs) [] gs s g e = absurd s
@@ -113,7 +113,7 @@ pub read_only_told : (p : Program) (roots : Roots) (tables : ProgramTables) (d :
     → after ≡ first_from kept (read_only_values p roots d)
 read_only_told p roots tables d t x gs kept after lists members h e same given told =
     let y = h.tells d x e in
-    let ws : List Row = (unit_at p d).rows in
+    let ws : List OwnedMember = (unit_at p d).rows in
     let says : RowsSay p d t [] x.rows.items ws =
     subst (λ table. RowsSay p d table [] x.rows.items ws) (y.2.tree ∙ sym same)
     (subst (λ rs. RowsSay p d y.2.unit.tree [] rs ws) y.2.made y.2.unit.says) in

@@ -13,7 +13,7 @@ use Rattle.qml_types.specs.declared.kind.TypeNo.TheVariants as no
 use Rattle.qml_types.specs.declared.kind.TypeRef.{TypeRef}
 use Rattle.qml_types.specs.declared.kind.TypeRef.TheVariants.{Builtin}
 use Rattle.program_names.specs.declared.fault.Fault.{Fault}
-use Rattle.program_names.specs.Written.{WrittenMember, WrittenValue, an_id, a_property, an_alias, a_signal, a_function, a_value, a_group, a_child, a_stray, Row}
+use Rattle.program_names.specs.Written.{WrittenMember, WrittenValue, an_id, a_property, an_alias, a_signal, a_function, a_value, a_group, a_child, a_stray, OwnedMember}
 use Rattle.program_names.specs.Loaded.{Program, unit_at}
 use Rattle.program_names.specs.Layers.{DefaultProperty, no_default, to_property, to_children, to_component, to_rows, default_of, is_type, is_a}
 use Rattle.program_names.specs.Components.{Roots}
@@ -177,9 +177,9 @@ abbrev TypesTold : Program → List UnitNames → ℕ → Type 0
 TypesTold p us d = (o : ℕ) → is_there us d o ≡ true → any_of (length us + 1) us (Builtin no.ListElement) (base_in us d o) ≡ is_type p d o no.ListElement
 
 rows_said : (p : Program) (roots : Roots) (d : ℕ) (us : List UnitNames) (t : Table) → IsListing t → TypesTold p us d
-    → (grouping : List Bool) (paths : List (List Units)) (rows : List UnitRow) (ws : List Row) (gs : List GivenFor) → RowsSay p d t paths rows ws → AllGiven p roots d gs ws
+    → (grouping : List Bool) (paths : List (List Units)) (rows : List UnitRow) (ws : List OwnedMember) (gs : List GivenFor) → RowsSay p d t paths rows ws → AllGiven p roots d gs ws
     → grouping ≡ map is_filled paths → AllThere us d ws
-    → by_rows (unknown_row us d t) rows (insides grouping rows) gs ≡ flat_map (λ (w : Row). unknown_here p roots d w.object w.member) ws
+    → by_rows (unknown_row us d t) rows (insides grouping rows) gs ≡ flat_map (λ (w : OwnedMember). unknown_here p roots d w.object w.member) ws
 rows_said p roots d us t lists types grouping paths [] [] gs s g e a = refl
 rows_said p roots d us t lists types grouping paths [] (w ∷ ws) gs s g e a = absurd s
 rows_said p roots d us t lists types grouping paths (r ∷ rs) [] gs s g e a = absurd s
@@ -220,7 +220,7 @@ pub unknown_told : (p : Program) (roots : Roots) (tables : ProgramTables) (d : �
 unknown_told p roots tables d t x gs kept after lists types members h e same given told =
     let y = h.tells d x e in
     let us : List UnitNames = tables.names.units.items in
-    let ws : List Row = (unit_at p d).rows in
+    let ws : List OwnedMember = (unit_at p d).rows in
     let says : RowsSay p d t [] x.rows.items ws =
     subst (λ table. RowsSay p d table [] x.rows.items ws) (y.2.tree ∙ sym same)
     (subst (λ rs. RowsSay p d y.2.unit.tree [] rs ws) y.2.made y.2.unit.says) in

@@ -1,6 +1,6 @@
 -- What the members of a document are given for.
 use Rattle.std.specs.Prelude.{◌≡◌, ℕ, List, [], ◌∷◌}
-use Rattle.program_names.specs.Written.{WrittenMember, a_value, a_group, a_child, Row}
+use Rattle.program_names.specs.Written.{WrittenMember, a_value, a_group, a_child, OwnedMember}
 use Rattle.program_names.specs.Loaded.{Program}
 use Rattle.program_names.specs.Layers.{DefaultProperty, no_default, to_property, default_of}
 use Rattle.program_names.specs.Components.{Roots}
@@ -37,7 +37,7 @@ given_for p roots d o (a_child at n) = for_child p roots d o (default_of p d o)
 given_for p roots d o _ = g.Nothing
 
 -- each of these is what the member of a row is given for
-abbrev pub AllGiven : Program → Roots → ℕ → List GivenFor → List Row → Type 0
+abbrev pub AllGiven : Program → Roots → ℕ → List GivenFor → List OwnedMember → Type 0
 AllGiven p roots d [] [] = Unit {0}
 AllGiven p roots d (x ∷ xs) (w ∷ ws) = (x ≡ given_for p roots d w.object w.member) × AllGiven p roots d xs ws
 AllGiven p roots d [] (w ∷ ws) = ⊥

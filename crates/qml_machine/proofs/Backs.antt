@@ -7,7 +7,7 @@ use Rattle.qml_syntax.specs.Tree.{Units}
 use Rattle.qml_syntax.specs.Ends.{Sees}
 use Rattle.qml_syntax.specs.Tree.{Names, Import, Kind, Pars, a_par, Function, SignalPars, a_signal_par, Object, Members, Member, Objects}
 use Rattle.qml_syntax.specs.ReadsDocument.{ReadsDots, d_more, ReadsKind, ReadsImport, ReadsImports, im_more, ReadsParKind, ReadsPars, p_more, ReadsFunction, ReadsSignalPars, g_more, ReadsSemi, ReadsObject, ReadsMembers, ms_more, ReadsMember, ReadsObjects, os_more, ReadsFunctions, fs_more}
-use Rattle.qml_machine.specs.Open.{onto, Row, members_onto, objects_onto, Par, pars_onto, SignalPar, signal_pars_onto}
+use Rattle.qml_machine.specs.Open.{onto, MarkedMember, members_onto, objects_onto, Par, pars_onto, SignalPar, signal_pars_onto}
 
 pub data OpenDots : List Units → List Token → List Token → Type 0 where
   od_none : {rest : List Token} → OpenDots [] rest rest
@@ -33,11 +33,11 @@ pub functions_closed : {back : List Function} {a b : List Token} → OpenFunctio
 functions_closed of_none r = r
 functions_closed (of_more o f) r = functions_closed o (fs_more f r)
 
-pub data OpenMembers : List Row → List Token → List Token → Type 0 where
+pub data OpenMembers : List MarkedMember → List Token → List Token → Type 0 where
   om_none : {rest : List Token} → OpenMembers [] rest rest
-  om_more : {x : Member} {s : Bool} {back : List Row} {a b c rest : List Token} → OpenMembers back a b → ReadsMember x b c → ReadsSemi s c rest → OpenMembers ((x, s) ∷ back) a rest
+  om_more : {x : Member} {s : Bool} {back : List MarkedMember} {a b c rest : List Token} → OpenMembers back a b → ReadsMember x b c → ReadsSemi s c rest → OpenMembers ((x, s) ∷ back) a rest
 
-pub members_closed : {back : List Row} {a b : List Token} → OpenMembers back a b → {ms : Members} {rest : List Token} → ReadsMembers ms b rest → ReadsMembers (members_onto back ms) a rest
+pub members_closed : {back : List MarkedMember} {a b : List Token} → OpenMembers back a b → {ms : Members} {rest : List Token} → ReadsMembers ms b rest → ReadsMembers (members_onto back ms) a rest
 members_closed om_none r = r
 members_closed (om_more o x s) r = members_closed o (ms_more x s r)
 

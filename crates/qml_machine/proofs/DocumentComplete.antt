@@ -21,7 +21,7 @@ use Rattle.qml_syntax.specs.declared.contextual.Version.{Version}
 use Rattle.qml_syntax.specs.declared.contextual.Version.TheVariants as version
 use Rattle.qml_syntax.specs.Words.{is_id, is_type_path, is_id_path, may_be_bare, is_alias, adjective_of, at_most_two, Tail, whole, before_value, before_dot, before_brackets, before_version, before_as, is_as, continues, tail_of_qualifier, tail_of_version, tail_of_target, tail_of_signal, MayStop, ReadsEnd, script_fits, is_script}
 use Rattle.qml_syntax.specs.ReadsDocument.{ReadsDots, d_none, d_more, ReadsKind, k_var, k_name, k_list, ReadsVersion, v_none, v_version, v_number, ReadsQualifier, q_none, q_some, ReadsImport, im_module, im_text, ReadsImports, im_none, im_more, ReadsParKind, pk_none, pk_some, ReadsPars, p_none, p_last, p_more, ReadsFunction, f_function, ReadsSignalPars, g_none, g_last, g_more, ReadsBrackets, b_none, b_some, ReadsAdjective, a_ordinary, a_default, a_readonly, ReadsSemi, no_semi, a_semi, t_own, t_of, ReadsObject, o_object, ReadsMembers, ms_none, ms_more, ReadsMember, m_id, m_property, m_bare, m_alias, m_signal, m_method, m_given, m_group, m_child, ReadsValue, v_object, v_list, v_stmt, ReadsObjects, os_last, os_more, ReadsDocument, r_document, AtLine, no_pragma, a_pragma, ReadsFunctions, fs_none, fs_more, ReadsScript, r_script}
-use Rattle.qml_machine.specs.Open.{onto, Row, members_onto, objects_onto, Par, pars_onto, SignalPar, signal_pars_onto, Holder, at_root, as_child, as_value, in_objects, Inside, in_object, in_group, Target, of_path, of_property, Home, in_members, in_script, Head, head, of_declared, of_signal_par, of_par, of_result, Source, of_module, of_text, import_of, member_of, inside_of, grown, Reading, imports, at_import, module_named, module_dotted, sourced, at_qualifier, qualified, at_object, members, done, path, at_id, id_named, at_kind, kinded, property_named, alias_named, at_target, target, target_dotted, signal_named, signal_opened, signal_par_named, signal_closed, at_function, function_named, function_opened, at_par, par_named, function_closed, body, value, objects, script_begun, at_pragma, at_library, pragma_read, functions}
+use Rattle.qml_machine.specs.Open.{onto, MarkedMember, members_onto, objects_onto, Par, pars_onto, SignalPar, signal_pars_onto, Holder, at_root, as_child, as_value, in_objects, Inside, in_object, in_group, Target, of_path, of_property, Home, in_members, in_script, Head, head, of_declared, of_signal_par, of_par, of_result, Source, of_module, of_text, import_of, member_of, inside_of, grown, Reading, imports, at_import, module_named, module_dotted, sourced, at_qualifier, qualified, at_object, members, done, path, at_id, id_named, at_kind, kinded, property_named, alias_named, at_target, target, target_dotted, signal_named, signal_opened, signal_par_named, signal_closed, at_function, function_named, function_opened, at_par, par_named, function_closed, body, value, objects, script_begun, at_pragma, at_library, pragma_read, functions}
 use Rattle.qml_machine.specs.DocumentMachine.{on_end, start, opened, held, closed, on_members, on_done, on_path, on_path_brace, on_kind, on_kinded, homed, is_left_brace, on_imports, on_import, on_module, on_sourced, on_import_end, needs_qualifier, on_name, on_mark, is_colon, is_dot, is_left_paren, on_target_end, on_signal_end, on_signal_opened, on_signal_par, on_function_opened, on_par, on_function_closed, on_functions, on_objects, is_default, read_step, read_finish, of_document, of_script, Outcome, run}
 use Rattle.qml_machine.proofs.Runs.{then_run, head_run, mark_true, dots_run, path_run, follows_head, kind_run, adjective_run, end_auto, end_semi, end_run, type_run, type_root, type_child, value_step, makes_value, makes_first, type_made, stmt_run, body_run}
 
@@ -235,12 +235,12 @@ pub fill : Inside → Members → Inside
 fill i no_members = i
 fill i (a_member x s ms) = fill (grown i x s) ms
 
-fill_object : (h : Holder) (x : TypeName) (back : List Row) (ms : Members) → closed (fill (in_object h x back) ms) ≡ held h (object x (members_onto back ms))
+fill_object : (h : Holder) (x : TypeName) (back : List MarkedMember) (ms : Members) → closed (fill (in_object h x back) ms) ≡ held h (object x (members_onto back ms))
 unfolding fill
 fill_object h x back no_members = refl
 fill_object h x back (a_member y s ms) = fill_object h x ((y, s) ∷ back) ms
 
-fill_group : (i : Inside) (n : Units) (p : Place) (ns : Names) (back : List Row) (ms : Members) → closed (fill (in_group i n p ns back) ms) ≡ done i (group n p ns (members_onto back ms))
+fill_group : (i : Inside) (n : Units) (p : Place) (ns : Names) (back : List MarkedMember) (ms : Members) → closed (fill (in_group i n p ns back) ms) ≡ done i (group n p ns (members_onto back ms))
 unfolding fill
 fill_group i n p ns back no_members = refl
 fill_group i n p ns back (a_member y s ms) = fill_group i n p ns ((y, s) ∷ back) ms

@@ -73,7 +73,7 @@ pub dots_same : (back : List Units) (ns : Names) (s : Table) → listed_dots (on
 dots_same [] ns s = refl
 dots_same (x ∷ back) ns s = dots_same back (x ∷ ns) s
 
-pub members_same : (back : List open_specs.Row) (ms : Members) (s : Table) → listed_members (members_onto back ms) s ≡ listed_members ms (members_row back s)
+pub members_same : (back : List open_specs.MarkedMember) (ms : Members) (s : Table) → listed_members (members_onto back ms) s ≡ listed_members ms (members_row back s)
 members_same [] ms s = refl
 members_same (x ∷ back) ms s = members_same back _ s
 

@@ -14,7 +14,7 @@ use Rattle.qml_syntax.specs.declared.contextual.Adjective.{Adjective}
 use Rattle.qml_syntax.specs.declared.contextual.Version.{Version}
 use Rattle.qml_syntax.specs.Words.{is_id, is_type_path, is_id_path, is_alias, adjective_of, at_most_two, Tail, before_as, tail_of_version}
 use Rattle.qml_syntax.specs.ReadsDocument.{ReadsDots, ReadsType, ReadsKind, ReadsVersion, ReadsAdjective, ReadsParKind, ReadsPars, ReadsSemi, ReadsSignalPars, ReadsObject, ReadsMember, m_property, m_given, ReadsValue, ReadsPragma}
-use Rattle.qml_machine.specs.Open.{Row, Par, pars_onto, SignalPar, Holder, at_root, as_child, as_value, in_objects, Inside, in_object, in_group, Target, of_path, of_property, Home, in_members, in_script, Head, head, Kinded, of_declared, of_signal_par, of_par, of_result, Source, of_module, of_text, member_of, inside_of, grown, Reading, imports, at_import, module_named, module_dotted, sourced, at_qualifier, qualified, at_object, object_named, object_dotted, typed, rooted, members, done, path, path_dotted, at_id, id_named, at_property, at_kind, kind_named, kind_dotted, at_element, element_named, kinded, property_named, alias_named, at_target, target, target_dotted, signal_named, signal_opened, signal_par_named, signal_closed, at_function, function_named, function_opened, at_par, par_named, function_closed, body, value, objects, script_begun, at_pragma, at_library, pragma_read, functions}
+use Rattle.qml_machine.specs.Open.{MarkedMember, Par, pars_onto, SignalPar, Holder, at_root, as_child, as_value, in_objects, Inside, in_object, in_group, Target, of_path, of_property, Home, in_members, in_script, Head, head, Kinded, of_declared, of_signal_par, of_par, of_result, Source, of_module, of_text, member_of, inside_of, grown, Reading, imports, at_import, module_named, module_dotted, sourced, at_qualifier, qualified, at_object, object_named, object_dotted, typed, rooted, members, done, path, path_dotted, at_id, id_named, at_property, at_kind, kind_named, kind_dotted, at_element, element_named, kinded, property_named, alias_named, at_target, target, target_dotted, signal_named, signal_opened, signal_par_named, signal_closed, at_function, function_named, function_opened, at_par, par_named, function_closed, body, value, objects, script_begun, at_pragma, at_library, pragma_read, functions}
 use Rattle.qml_machine.specs.DocumentMachine.{Entry, a_document, a_script}
 use Rattle.qml_machine.proofs.Backs.{OpenDots, OpenImports, OpenFunctions, OpenMembers, om_more, OpenObjects, OpenPars, OpenSignalPars}
 
@@ -27,8 +27,8 @@ mutual
     lh_objects : {g : Target} {p : Place} {back : List Object} {s a b rest : List Token} → LeftTarget y g s a → One (k.Mark m.LeftBracket) p a b → OpenObjects back b rest → LeftHolder y (in_objects g p back) s rest
 
   pub data LeftInside (y : Entry) : Inside → List Token → List Token → Type 0 where
-    li_object : {h : Holder} {x : TypeName} {back : List Row} {s a b c rest : List Token} → LeftHolder y h s a → ReadsType x a b → Sees (k.Mark m.LeftBrace) b c → OpenMembers back c rest → LeftInside y (in_object h x back) s rest
-    li_group : {i : Inside} {n : Units} {p : Place} {ns : Names} {back : List Row} {s a b c d rest : List Token} → LeftInside y i s a → One (k.Name n) p a b → ReadsDots ns b c → is_type_path n ns ≡ false → Sees (k.Mark m.LeftBrace) c d → OpenMembers back d rest → LeftInside y (in_group i n p ns back) s rest
+    li_object : {h : Holder} {x : TypeName} {back : List MarkedMember} {s a b c rest : List Token} → LeftHolder y h s a → ReadsType x a b → Sees (k.Mark m.LeftBrace) b c → OpenMembers back c rest → LeftInside y (in_object h x back) s rest
+    li_group : {i : Inside} {n : Units} {p : Place} {ns : Names} {back : List MarkedMember} {s a b c d rest : List Token} → LeftInside y i s a → One (k.Name n) p a b → ReadsDots ns b c → is_type_path n ns ≡ false → Sees (k.Mark m.LeftBrace) c d → OpenMembers back d rest → LeftInside y (in_group i n p ns back) s rest
 
   pub data LeftTarget (y : Entry) : Target → List Token → List Token → Type 0 where
     lt_path : {i : Inside} {n : Units} {p : Place} {ns : Names} {s a b c rest : List Token} → LeftInside y i s a → One (k.Name n) p a b → ReadsDots ns b c → is_id_path n ns ≡ false → Sees (k.Mark m.Colon) c rest → LeftTarget y (of_path i n p ns) s rest

@@ -7,7 +7,7 @@ use Rattle.qml_syntax.specs.Tree.{Units}
 use Rattle.js_machine.specs.Tape.{Tape, tape_of}
 use Rattle.qml_syntax.specs.Tree.{Import, Function, Object}
 use Rattle.qml_syntax.specs.Words.{is_type, is_script}
-use Rattle.qml_machine.specs.Open.{Row, Par, SignalPar, Holder, at_root, as_child, as_value, in_objects, Inside, in_object, in_group, Target, of_path, of_property, Home, in_members, in_script, Head, head, Kinded, of_declared, of_signal_par, of_par, of_result, Source, of_text, Reading, imports, at_import, module_named, module_dotted, sourced, at_qualifier, qualified, at_object, object_named, object_dotted, typed, rooted, members, done, path, path_dotted, at_id, id_named, at_property, at_kind, kind_named, kind_dotted, at_element, element_named, kinded, property_named, alias_named, at_target, target, target_dotted, signal_named, signal_opened, signal_par_named, signal_closed, at_function, function_named, function_opened, at_par, par_named, function_closed, body, value, objects, script_begun, at_pragma, at_library, pragma_read, functions}
+use Rattle.qml_machine.specs.Open.{MarkedMember, Par, SignalPar, Holder, at_root, as_child, as_value, in_objects, Inside, in_object, in_group, Target, of_path, of_property, Home, in_members, in_script, Head, head, Kinded, of_declared, of_signal_par, of_par, of_result, Source, of_text, Reading, imports, at_import, module_named, module_dotted, sourced, at_qualifier, qualified, at_object, object_named, object_dotted, typed, rooted, members, done, path, path_dotted, at_id, id_named, at_property, at_kind, kind_named, kind_dotted, at_element, element_named, kinded, property_named, alias_named, at_target, target, target_dotted, signal_named, signal_opened, signal_par_named, signal_closed, at_function, function_named, function_opened, at_par, par_named, function_closed, body, value, objects, script_begun, at_pragma, at_library, pragma_read, functions}
 use Rattle.qml_machine.specs.Open as open_specs
 use Rattle.qml_machine.specs.DocumentMachine.{word_of}
 use Rattle.qml_syntax.specs.Listed.{listed_dots, listed_type, listed_kind, listed_kind, listed_import, listed_par_kind, listed_function, listed_signal_pars, listed_member, listed_semi, listed_object}
@@ -46,7 +46,7 @@ abbrev pub functions_row : List Function → Table → Table
 functions_row [] s = s
 functions_row (f ∷ back) s = listed_function f (functions_row back s)
 
-abbrev pub members_row : List open_specs.Row → Table → Table
+abbrev pub members_row : List open_specs.MarkedMember → Table → Table
 members_row [] s = s
 members_row (x ∷ back) s = listed_semi x.1 (listed_member x.0 (members_row back s))
 

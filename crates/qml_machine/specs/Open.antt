@@ -6,7 +6,7 @@ use Rattle.js_machine.specs.Frames.{State}
 use Rattle.qml_syntax.specs.Tree.{Names, Import, import_module, import_text, TypeName, Kind, Function, SignalPars, Object, Member, property, given, Value}
 use Rattle.qml_syntax.specs.declared.contextual.Adjective.{Adjective}
 use Rattle.qml_syntax.specs.declared.contextual.Version.{Version}
-pub use Rattle.qml_syntax.specs.Onto.{onto, Row, members_onto, objects_onto, Par, pars_onto, SignalPar, signal_pars_onto}
+pub use Rattle.qml_syntax.specs.Onto.{onto, MarkedMember, members_onto, objects_onto, Par, pars_onto, SignalPar, signal_pars_onto}
 
 -- ---- frames
 
@@ -19,8 +19,8 @@ mutual
     in_objects : Target → Place → List Object → Holder
 
   pub data Inside : Type 0 where
-    in_object : Holder → TypeName → List Row → Inside
-    in_group : Inside → Units → Place → Names → List Row → Inside
+    in_object : Holder → TypeName → List MarkedMember → Inside
+    in_group : Inside → Units → Place → Names → List MarkedMember → Inside
 
   pub data Target : Type 0 where
     of_path : Inside → Units → Place → Names → Target

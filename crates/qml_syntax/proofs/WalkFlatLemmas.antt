@@ -89,8 +89,8 @@ as_statement (again p c) s st acc = refl
 -- ---- parts of chains, with what their operand writes
 
 -- what stands on a table writes these tokens
-abbrev Writes : Table → Table → Kinds → Type 0
-Writes t s ks = (st : Pieces) (acc : Kinds) → flat_from t (one ∷ st, acc) ≡ flat_from s (st, ks ++ acc)
+abbrev WritesTokens : Table → Table → Kinds → Type 0
+WritesTokens t s ks = (st : Pieces) (acc : Kinds) → flat_from t (one ∷ st, acc) ≡ flat_from s (st, ks ++ acc)
 
 abbrev some_exprs : Exprs → Bool
 some_exprs no_exprs = false
@@ -104,7 +104,7 @@ abbrev awaits_before : Bool → Pieces → Pieces
 awaits_before true st = st
 awaits_before false st = one ∷ st
 
-signs_written : (ss : Signs) (first : Bool) (g : Prefix) (p : Place) (t : Table → Table) (s : Table) (ks : Kinds) (st : Pieces) (acc : Kinds) → ((z : Table) → Writes (t z) z ks) → flat_from (last_sign first g p ss ∷ t (listed_signs first g p ss s)) (one ∷ st, acc) ≡ flat_from s (awaits_before first st, prefix_kind g ∷ flat_signs ss ++ ks ++ acc)
+signs_written : (ss : Signs) (first : Bool) (g : Prefix) (p : Place) (t : Table → Table) (s : Table) (ks : Kinds) (st : Pieces) (acc : Kinds) → ((z : Table) → WritesTokens (t z) z ks) → flat_from (last_sign first g p ss ∷ t (listed_signs first g p ss s)) (one ∷ st, acc) ≡ flat_from s (awaits_before first st, prefix_kind g ∷ flat_signs ss ++ ks ++ acc)
 signs_written no_signs true g p t s ks st acc h = h s (piece.Prefix g ∷ st) acc ∙ prefix_next s g st (ks ++ acc)
 signs_written no_signs false g p t s ks st acc h = h s (piece.Prefix g ∷ one ∷ st) acc ∙ prefix_next s g (one ∷ st) (ks ++ acc)
 signs_written (a_sign d q ss) true g p t s ks st acc h = signs_written ss false d q t (node.Sign true g p ∷ s) ks st acc h ∙ prefix_next s g st (prefix_kind d ∷ flat_signs ss ++ ks ++ acc)
@@ -148,7 +148,7 @@ mutual
   steps_written no_steps s st acc = refl
   steps_written (a_step i is) s st acc = steps_written is (listed_step i s) st acc ∙ as_step i s st (flat_steps is ++ acc) ∙ step_written i s (piece.Parts part.Steps ∷ st) (flat_steps is ++ acc) ∙ then_kinds s (piece.Parts part.Steps ∷ st) (simp append_assoc)
 
-  links_written : (ls : Links) (first : Bool) (op : Operator) (p : Place) (t s : Table) (ks : Kinds) (st : Pieces) (acc : Kinds) → Writes t s ks → flat_from (listed_links first op p ls t) (one ∷ st, acc) ≡ flat_from s (one ∷ st, k.Mark (operator_mark op) ∷ ks ++ (flat_links ls ++ acc))
+  links_written : (ls : Links) (first : Bool) (op : Operator) (p : Place) (t s : Table) (ks : Kinds) (st : Pieces) (acc : Kinds) → WritesTokens t s ks → flat_from (listed_links first op p ls t) (one ∷ st, acc) ≡ flat_from s (one ∷ st, k.Mark (operator_mark op) ∷ ks ++ (flat_links ls ++ acc))
   links_written no_links first op p t s ks st acc h = h (piece.Mark (operator_mark op) ∷ one ∷ st) acc ∙ mark_next s (operator_mark op) (one ∷ st) (ks ++ acc)
   links_written (a_link o q d ls) first op p t s ks st acc h = links_written ls false o q (listed d (node.Link first op p ∷ t)) (node.Link first op p ∷ t) (flat d) st acc (written d (node.Link first op p ∷ t)) ∙ h (piece.Mark (operator_mark op) ∷ one ∷ st) (k.Mark (operator_mark o) ∷ flat d ++ (flat_links ls ++ acc)) ∙ mark_next s (operator_mark op) (one ∷ st) (ks ++ (k.Mark (operator_mark o) ∷ flat d ++ (flat_links ls ++ acc))) ∙ then_kinds s (one ∷ st) (simp append_assoc)
 

@@ -10,7 +10,7 @@ use Rattle.qml_syntax.specs.declared.node.Node.{Node}
 use Rattle.qml_syntax.specs.declared.node.Node.TheVariants as node
 use Rattle.qml_syntax.specs.Tree.{Units, Close, semi, auto, Expr, name, number, text, literal, paren, list, fields, bumped, no_exprs, no_fields, Step, member, element, call, binding, no_signs, no_links, no_choices, no_targets, Stmt, empty, expr, block, declare, when, either, while, for, give, stop, again, Stmts, no_stmts, Vars, last_var, Maybe, nothing, just, First, no_first, first_expr, first_declare, Names, Import, import_module, import_text, TypeName, own_type, type_of, Kind, kind_var, kind_name, kind_list, no_pars, Function, function, no_signal_pars, Object, object, no_members, Member, id, property, bare, alias, signal, method, given, group, child, Value, value_object, value_list, value_stmt, Objects, last_object, Document, document, Script, script}
 use Rattle.qml_syntax.specs.Onto.{Field, Sign, Link, Choice, Target, Var, exprs_onto, fields_onto, stepped, signed_onto, chain_onto, choose_onto, assign_onto, vars_onto, stmts_onto}
-use Rattle.qml_syntax.specs.Onto.{Row, Par, SignalPar, onto, members_onto, objects_onto, pars_onto, signal_pars_onto}
+use Rattle.qml_syntax.specs.Onto.{MarkedMember, Par, SignalPar, onto, members_onto, objects_onto, pars_onto, signal_pars_onto}
 
 -- a part that no node has taken
 pub data Item : Type 0 where
@@ -294,7 +294,7 @@ abbrev pub below_functions : Parts → Parts
 below_functions (of_function f ∷ s) = below_functions s
 below_functions s = below s
 
-abbrev pub members_in : Parts → List Row
+abbrev pub members_in : Parts → List MarkedMember
 members_in (of_member x b ∷ s) = (x, b) ∷ members_in s
 members_in _ = []
 

@@ -74,8 +74,8 @@ stmts_onto (s ∷ back) ss = stmts_onto back (a_stmt s ss)
 
 -- ---- of documents and script files
 
-abbrev pub Row : Type 0
-Row = Member × Bool
+abbrev pub MarkedMember : Type 0
+MarkedMember = Member × Bool
 
 abbrev pub Par : Type 0
 Par = Units × Option Kind
@@ -87,7 +87,7 @@ abbrev pub onto : {A : Type 0} → List A → List A → List A
 onto [] tail = tail
 onto (x ∷ back) tail = onto back (x ∷ tail)
 
-abbrev pub members_onto : List Row → Members → Members
+abbrev pub members_onto : List MarkedMember → Members → Members
 members_onto [] tail = tail
 members_onto (x ∷ back) tail = members_onto back (a_member x.0 x.1 tail)
 

@@ -72,7 +72,7 @@ impl Spans {
     {
         match taking {
             Taking::Count(count) => self.back(count, end),
-            Taking::Row => self.back_to(Edge::Mark, end),
+            Taking::UpToMark => self.back_to(Edge::Mark, end),
             Taking::Steps => self.back_to(Edge::Operand, end),
             Taking::Chain => self.back_to(Edge::First, self.before(end)),
             Taking::Operands => self.before(self.back_to(Edge::First, self.before(end))),

@@ -11,7 +11,7 @@ pub enum Taking {
     /// This many.
     Count(usize),
     /// Those behind a mark, and the mark.
-    Row,
+    UpToMark,
     /// The steps behind an expression, and it; or the names behind dots of a path, and its first.
     Steps,
     /// The last operand, and the chain before it.
@@ -67,7 +67,7 @@ pub fn taken_by(node: &Node) -> Taking
         | Node::Block(_)
         | Node::Declare(_, _, _)
         | Node::FirstDeclare(_, _)
-        | Node::Body => Taking::Row,
+        | Node::Body => Taking::UpToMark,
         Node::Steps => Taking::Steps,
         Node::Choose | Node::Assign => Taking::Chain,
         Node::Signed(first, _, _) => if *first {
@@ -97,7 +97,7 @@ fn taken_in_document(node: &Node) -> Taking
         | Node::Semi => Taking::Count(1),
         Node::ImportFile(_) | Node::Parameter | Node::Bare(_, _, _) => Taking::Count(2),
         Node::Property(_, _) => Taking::Count(3),
-        Node::ObjectList(_) | Node::Script(_) => Taking::Row,
+        Node::ObjectList(_) | Node::Script(_) => Taking::UpToMark,
         Node::KindName => Taking::Steps,
         Node::ImportModule(_, _) | Node::Given => Taking::Path,
         Node::Group | Node::Object => Taking::Members,

@@ -12,8 +12,8 @@ use Rattle.program_names.specs.Reading.{File, ReadFile, refused_by, mentioning, 
 use Rattle.read_order.specs.declared.file.File as code
 use Rattle.read_order.specs.Order.{file_of, files_of, put, put_all}
 
-abbrev pub Reads : Type 0
-Reads = File → ReadFile
+abbrev pub Reader : Type 0
+Reader = File → ReadFile
 
 abbrev Keys : Type 0
 Keys = List code.File
@@ -58,14 +58,14 @@ pub put_one : (root : File) → put [] root ≡ root ∷ []
 put_one root = refl
 
 -- Reading of all files stands where so many were read.
-pub record Stands (read : Reads) (root : File) (files : List File) (at : ℕ) : Type 0 where
+pub record Stands (read : Reader) (root : File) (files : List File) (at : ℕ) : Type 0 where
   pub done : List File
   pub queue : List File
   pub split : files ≡ done ++ queue
   pub long : length done ≡ at
   pub goes_on : (m : ℕ) → reading read (m + at) [] (root ∷ []) ≡ reading read m done queue
 
-pub stands_first : (read : Reads) (root : File) (files : List File) → files ≡ root ∷ [] → Stands read root files 0
+pub stands_first : (read : Reader) (root : File) (files : List File) → files ≡ root ∷ [] → Stands read root files 0
 stands_first read root files e = record {
   done = [];
   queue = root ∷ [];
@@ -90,7 +90,7 @@ none_waits : (queue : List File) → slice_get queue 0 ≡ None → queue ≡ []
 none_waits [] e = refl
 none_waits (f ∷ queue) e = absurd (false≢true (sym (ap is_some e)))
 
-pub ends : (read : Reads) (root : File) (files : List File) (at : ℕ) → Stands read root files at → slice_get files at ≡ None
+pub ends : (read : Reader) (root : File) (files : List File) (at : ℕ) → Stands read root files at → slice_get files at ≡ None
     → (n : ℕ) × (reading read n [] (root ∷ []) ≡ all_read files)
 ends read root files at s none =
     let empty : s.queue ≡ [] = none_waits s.queue (sym (got_at s.done s.queue) ∙ ap (slice_get (s.done ++ s.queue)) s.long ∙ ap (λ fs. slice_get fs at) (sym s.split) ∙ none) in
@@ -101,17 +101,17 @@ waits_first : (queue : List File) (f : File) → slice_get queue 0 ≡ Some f �
 waits_first [] f e = absurd (false≢true (ap is_some e))
 waits_first (x ∷ queue) f e = (queue, ap (λ (o : Option File). unwrap_or o f ∷ queue) e)
 
-next_of : (read : Reads) (root : File) (files : List File) (at : ℕ) (s : Stands read root files at) (f : File) → slice_get files at ≡ Some f → (rest : List File) × (s.queue ≡ f ∷ rest)
+next_of : (read : Reader) (root : File) (files : List File) (at : ℕ) (s : Stands read root files at) (f : File) → slice_get files at ≡ Some f → (rest : List File) × (s.queue ≡ f ∷ rest)
 next_of read root files at s f e = waits_first s.queue f (sym (got_at s.done s.queue) ∙ ap (slice_get (s.done ++ s.queue)) s.long ∙ ap (λ fs. slice_get fs at) (sym s.split) ∙ e)
 
-abbrev with_file : Reads → ℕ → List File → File → List File → ReadFile → Reading
+abbrev with_file : Reader → ℕ → List File → File → List File → ReadFile → Reading
 with_file read m done f rest how =
     elim how [
       | refused_by x ↦ refused f x
       | mentioning files ↦ reading read m (done ++ f ∷ []) (queued (done ++ f ∷ []) rest files)
     ]
 
-pub stands_next : (read : Reads) (root : File) (files after : List File) (at : ℕ) (f : File) (ms : List File)
+pub stands_next : (read : Reader) (root : File) (files after : List File) (at : ℕ) (f : File) (ms : List File)
     → Stands read root files at → slice_get files at ≡ Some f → read f ≡ mentioning ms → after ≡ put_all files ms → Stands read root after (at + 1)
 stands_next read root files after at f ms s got told put =
     let w : (rest : List File) × (s.queue ≡ f ∷ rest) = next_of read root files at s f got in
@@ -128,7 +128,7 @@ stands_next read root files after at f ms s got told put =
     shifted : (m n : ℕ) → m + (n + 1) ≡ suc m + n
     shifted m n = omega arith
 
-pub ends_refused : (read : Reads) (root : File) (files : List File) (at : ℕ) (f : File) (x : Fault) → Stands read root files at → slice_get files at ≡ Some f → read f ≡ refused_by x
+pub ends_refused : (read : Reader) (root : File) (files : List File) (at : ℕ) (f : File) (x : Fault) → Stands read root files at → slice_get files at ≡ Some f → read f ≡ refused_by x
     → (n : ℕ) × (reading read n [] (root ∷ []) ≡ refused f x)
 ends_refused read root files at f x s got told =
     let w : (rest : List File) × (s.queue ≡ f ∷ rest) = next_of read root files at s f got in

@@ -25,4 +25,4 @@ pub data Reports : List Cell → List Cell → List Report → Type 0 where
   no_report : Reports [] [] []
   kept : {b a : Cell} {olds news : List Cell} {rs : List Report} → b.outcome ≡ a.outcome → Reports olds news rs → Reports (b ∷ olds) (a ∷ news) rs
   silent : {b a : Cell} {olds news : List Cell} {rs : List Report} → told_of a.outcome ≡ None → Reports olds news rs → Reports (b ∷ olds) (a ∷ news) rs
-  told : {b a : Cell} {olds news : List Cell} {rs : List Report} {what : Option Cause} → b.outcome ≢ a.outcome → told_of a.outcome ≡ Some what → Reports olds news rs → Reports (b ∷ olds) (a ∷ news) (record { cell = a.no; cause = what } ∷ rs)
+  reported : {b a : Cell} {olds news : List Cell} {rs : List Report} {what : Option Cause} → b.outcome ≢ a.outcome → told_of a.outcome ≡ Some what → Reports olds news rs → Reports (b ∷ olds) (a ∷ news) (record { cell = a.no; cause = what } ∷ rs)

@@ -12,7 +12,7 @@ use Rattle.qml_base.specs.declared.numbers.CellNo.{CellNo}
 use Rattle.tree_model.specs.declared.cells.Report.{Report}
 use Rattle.tree_model.specs.Systems.{Outcomes}
 use Rattle.tree_model.specs.Settling.{taking, taking_all, IsLowestPast, NonePast}
-use Rattle.tree_model.specs.Telling.{Changes, Reports, none, same, other, no_report, kept, silent, told}
+use Rattle.tree_model.specs.Telling.{Changes, Reports, none, same, other, no_report, kept, silent, reported}
 use Rattle.tree_model.specs.declared.cells.Object.{Object}
 use Rattle.tree_settling.specs.Tables.{Table, read_in, there_came, entry_came, own_value, Ready, AllBegun, taken, is_past, Tells, spare_needed, spares_needed}
 use Rattle.qml_value.specs.declared.value.Value.{Value}
@@ -46,7 +46,7 @@ module _ (cells : List Cell) (table : Table) (i : ℕ) (x : Cell) (y : Option Ca
   pub reports_told : (done : List Report) (r : Report) → ReportsOn done → Tells x (entry_came x y) (Some r) → (rest : List Report) → Reports (drop (i + 1) cells) (taken (drop (i + 1) cells) (drop (i + 1) table)) rest → Reports cells (taken cells table) ((done ++ r ∷ []) ++ rest)
   reports_told done r on t rest h =
       let is : r ≡ record { cell = x.no; cause = r.cause } = ap (λ (c : CellNo). record { cell = c; cause = r.cause }) t.2 in
-      rw (append_assoc done (r ∷ []) rest) (on (r ∷ rest) (rw (first_taken, first_cell) (subst (λ (s : Report). Reports (x ∷ drop (i + 1) cells) (taking x (entry_came x y) ∷ taken (drop (i + 1) cells) (drop (i + 1) table)) (s ∷ rest)) (sym is) (told t.0 t.1 h))))
+      rw (append_assoc done (r ∷ []) rest) (on (r ∷ rest) (rw (first_taken, first_cell) (subst (λ (s : Report). Reports (x ∷ drop (i + 1) cells) (taking x (entry_came x y) ∷ taken (drop (i + 1) cells) (drop (i + 1) table)) (s ∷ rest)) (sym is) (reported t.0 t.1 h))))
 
   cell_there : slice_get cells i ≡ Some x
   cell_there = slice_get_read cells (length cells) i x refl inside x_is

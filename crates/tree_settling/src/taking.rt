@@ -97,7 +97,7 @@ fn outcome(came: &Came) -> Outcome
 }
 
 /// What is told of a cell that came to this.
-fn told(cell: &Cell, entry: &Option<Came>) -> Option<Report>
+fn report_of(cell: &Cell, entry: &Option<Came>) -> Option<Report>
     ensures { Tells cell.now (entry_came cell.now entry.now) result }
 {
     match entry {
@@ -136,7 +136,7 @@ pub fn reports(
 {
     let mut reports = Vec::new(alloc);
     for (i, cell) in cells.iter().enumerate() {
-        if let Some(report) = told(cell, &table[i]) {
+        if let Some(report) = report_of(cell, &table[i]) {
             reports.push(report)?;
         }
     }

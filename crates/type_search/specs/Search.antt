@@ -8,7 +8,7 @@ use Rattle.program_names.specs.Paths.{Path, joined_to}
 use Rattle.program_names.specs.Utf8.{utf8_of}
 use Rattle.program_names.specs.Types.{TypeFound, built_in, in_file}
 use Rattle.program_names.specs.Reading.{Source as FileSource, no_file, Sources}
-use Rattle.document_imports.specs.Imports.{Row, Source, a_module, a_directory, a_script}
+use Rattle.document_imports.specs.Imports.{WrittenImport, Source, a_module, a_directory, a_script}
 use Rattle.type_search.specs.declared.search.TypeFound as code
 use Rattle.type_search.specs.declared.search.TypeFound.TheVariants as found
 
@@ -35,17 +35,17 @@ source_type exists name (a_module m) = option_map built_in (offered offers m nam
 source_type exists name (a_directory path) = file_in exists path name
 source_type exists name (a_script path) = None
 
-abbrev pub row_type : Exists → Option Units → Units → Row → Option TypeFound
+abbrev pub row_type : Exists → Option Units → Units → WrittenImport → Option TypeFound
 row_type exists wanted name r = if same_qualifier wanted r.qualifier then source_type exists name r.source else None
 
-abbrev pub rows_type : Exists → Option Units → Units → List Row → Option TypeFound
+abbrev pub rows_type : Exists → Option Units → Units → List WrittenImport → Option TypeFound
 rows_type exists wanted name [] = None
 rows_type exists wanted name (r ∷ rest) = option_or (row_type exists wanted name r) (rows_type exists wanted name rest)
 
 abbrev pub own_type : Exists → Path → Option Units → Units → Option TypeFound
 own_type exists here wanted name = if is_none wanted then file_in exists here name else None
 
-abbrev pub searched : Exists → Path → List Row → Option Units → Units → Option TypeFound
+abbrev pub searched : Exists → Path → List WrittenImport → Option Units → Units → Option TypeFound
 searched exists here rows wanted name =
     option_or (rows_type exists wanted name (reverse rows)) (own_type exists here wanted name)
 

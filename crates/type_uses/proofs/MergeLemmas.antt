@@ -16,8 +16,8 @@ use Rattle.document_rows.specs.Entries.{ObjectEntry, MemberEntry, an_object_entr
 use Rattle.type_uses.specs.Uses.{object_use, member_use, merged, uses_in_rows}
 use Rattle.type_uses.proofs.PartLemmas.{object_item, member_item, object_at, member_at, named, uses_inside, by_member}
 
-abbrev told : ℕ → List ObjectEntry → List MemberEntry → List TypeUse
-told n os ms = merged (λ (e : ObjectEntry). object_item e.part) (λ (e : MemberEntry). member_item e.part) (λ (e : MemberEntry). e.first) n os ms
+abbrev uses_told : ℕ → List ObjectEntry → List MemberEntry → List TypeUse
+uses_told n os ms = merged (λ (e : ObjectEntry). object_item e.part) (λ (e : MemberEntry). member_item e.part) (λ (e : MemberEntry). e.first) n os ms
 
 -- ---- rows and what they stand for
 
@@ -39,7 +39,7 @@ objects_alike : (t : Table) (os : List ObjectRow) → IsListing t → map (λ (o
 objects_alike t [] lists = refl
 objects_alike t (o ∷ os) lists = ap (λ u. u ∷ map (λ (r : ObjectRow). object_use t r.node) os) (object_at t o.node lists) ∙ ap (λ us. object_item (object_entry t o).part ∷ us) (objects_alike t os lists)
 
-rows_alike : (t : Table) (n : ℕ) (os : List ObjectRow) (ms : List MemberRow) → IsListing t → uses_in_rows t n os ms ≡ told n (map (object_entry t) os) (map (member_entry t) ms)
+rows_alike : (t : Table) (n : ℕ) (os : List ObjectRow) (ms : List MemberRow) → IsListing t → uses_in_rows t n os ms ≡ uses_told n (map (object_entry t) os) (map (member_entry t) ms)
 rows_alike t n os [] lists = objects_alike t os lists
 rows_alike t n os (m ∷ ms) lists =
     let k : ℕ = min (m.first - n) (length os) in
@@ -47,9 +47,9 @@ rows_alike t n os (m ∷ ms) lists =
     (objects_alike t (take k os) lists ∙ ap (map (λ (e : ObjectEntry). object_item e.part)) (sym (take_map (object_entry t) k os))) ∙
     ap (λ us. map (λ (e : ObjectEntry). object_item e.part) (take k (map (object_entry t) os)) ++ (option_to_list us ++ uses_in_rows t m.first (drop k os) ms)) (member_at t m.node lists) ∙
     ap (λ us. map (λ (e : ObjectEntry). object_item e.part) (take k (map (object_entry t) os)) ++ (option_to_list (member_item (member_entry t m).part) ++ us))
-    (rows_alike t m.first (drop k os) ms lists ∙ ap (λ xs. told m.first xs (map (member_entry t) ms)) (sym (drop_map (object_entry t) k os))) ∙
+    (rows_alike t m.first (drop k os) ms lists ∙ ap (λ xs. uses_told m.first xs (map (member_entry t) ms)) (sym (drop_map (object_entry t) k os))) ∙
     ap (λ l. map (λ (e : ObjectEntry). object_item e.part) (take (min (m.first - n) l) (map (object_entry t) os)) ++
-    (option_to_list (member_item (member_entry t m).part) ++ told m.first (drop (min (m.first - n) l) (map (object_entry t) os)) (map (member_entry t) ms)))
+    (option_to_list (member_item (member_entry t m).part) ++ uses_told m.first (drop (min (m.first - n) l) (map (object_entry t) os)) (map (member_entry t) ms)))
     (sym (length_map (object_entry t) os))
 
 -- ---- one step
@@ -62,19 +62,19 @@ Behind n (m ∷ ms) = n ≤ m.first
 one_less : (a n l : ℕ) → suc n ≤ a → min (a - n) (suc l) ≡ suc (min (a - suc n) l)
 one_less a n l h = omega arith
 
-object_told : (n : ℕ) (e : ObjectEntry) (os : List ObjectEntry) (ms : List MemberEntry) → Behind (suc n) ms → told n (e ∷ os) ms ≡ object_item e.part ∷ told (suc n) os ms
+object_told : (n : ℕ) (e : ObjectEntry) (os : List ObjectEntry) (ms : List MemberEntry) → Behind (suc n) ms → uses_told n (e ∷ os) ms ≡ object_item e.part ∷ uses_told (suc n) os ms
 object_told n e os [] h = refl
 object_told n e os (m ∷ ms) h =
-    ap (λ k. map (λ (x : ObjectEntry). object_item x.part) (take k (e ∷ os)) ++ (option_to_list (member_item m.part) ++ told m.first (drop k (e ∷ os)) ms))
+    ap (λ k. map (λ (x : ObjectEntry). object_item x.part) (take k (e ∷ os)) ++ (option_to_list (member_item m.part) ++ uses_told m.first (drop k (e ∷ os)) ms))
     (one_less m.first n (length os) h)
 
 none_before : (n l : ℕ) → min (n - n) l ≡ 0
 none_before n l = omega arith
 
-member_told : (n : ℕ) (m : MemberEntry) (os : List ObjectEntry) (ms : List MemberEntry) → m.first ≡ n → told n os (m ∷ ms) ≡ option_to_list (member_item m.part) ++ told n os ms
+member_told : (n : ℕ) (m : MemberEntry) (os : List ObjectEntry) (ms : List MemberEntry) → m.first ≡ n → uses_told n os (m ∷ ms) ≡ option_to_list (member_item m.part) ++ uses_told n os ms
 member_told n m os ms e =
-    ap (λ a. map (λ (x : ObjectEntry). object_item x.part) (take (min (a - n) (length os)) os) ++ (option_to_list (member_item m.part) ++ told a (drop (min (a - n) (length os)) os) ms)) e ∙
-    ap (λ k. map (λ (x : ObjectEntry). object_item x.part) (take k os) ++ (option_to_list (member_item m.part) ++ told n (drop k os) ms)) (none_before n (length os))
+    ap (λ a. map (λ (x : ObjectEntry). object_item x.part) (take (min (a - n) (length os)) os) ++ (option_to_list (member_item m.part) ++ uses_told a (drop (min (a - n) (length os)) os) ms)) e ∙
+    ap (λ k. map (λ (x : ObjectEntry). object_item x.part) (take k os) ++ (option_to_list (member_item m.part) ++ uses_told n (drop k os) ms)) (none_before n (length os))
 
 -- ---- where members begin
 
@@ -103,10 +103,10 @@ list_behind l n k (an_object o os) rest h b =
 
 -- ---- all of them
 
-moved : (n m : ℕ) (os : List ObjectEntry) (ms : List MemberEntry) → n ≡ m → told n os ms ≡ told m os ms
-moved n m os ms e = ap (λ x. told x os ms) e
+moved : (n m : ℕ) (os : List ObjectEntry) (ms : List MemberEntry) → n ≡ m → uses_told n os ms ≡ uses_told m os ms
+moved n m os ms e = ap (λ x. uses_told x os ms) e
 
-nothing : (n : ℕ) (os : List ObjectEntry) (ms : List MemberEntry) → told n os ms ≡ told (n + 0) os ms
+nothing : (n : ℕ) (os : List ObjectEntry) (ms : List MemberEntry) → uses_told n os ms ≡ uses_told (n + 0) os ms
 nothing n os ms = moved n (n + 0) os ms (omega arith)
 
 joined_up : (m : Member) (us rest : List TypeUse) → option_to_list (member_item (of_member m false)) ++ (uses_inside m ++ (us ++ rest)) ≡ (uses_by m ++ us) ++ rest
@@ -115,35 +115,35 @@ joined_up m us rest =
 
 mutual
   object_merged : (row : Option ℕ) (n k : ℕ) (o : Object) (os : List ObjectEntry) (ms : List MemberEntry) → Behind (n + count_object o) ms
-      → told n (objects_with row k o ++ os) (members_with n k o ++ ms) ≡ type_uses o ++ told (n + count_object o) os ms
+      → uses_told n (objects_with row k o ++ os) (members_with n k o ++ ms) ≡ type_uses o ++ uses_told (n + count_object o) os ms
   object_merged row n k (object x xs) os ms b =
       object_told n (an_object_entry row (object x xs)) (objects_of_members k xs ++ os) (members_of n None (suc n) k xs ++ ms)
       (members_behind n None (suc n) (suc n) k xs ms (omega arith) (more (suc n + count_members xs) (n + suc (count_members xs)) ms (omega arith) b)) ∙
       ap (λ us. object_item (of_object (object x xs)) ∷ us)
       (members_merged n None (suc n) k xs os ms (more (suc n + count_members xs) (n + suc (count_members xs)) ms (omega arith) b) ∙
       ap (λ us. uses_in xs ++ us) (moved (suc n + count_members xs) (n + suc (count_members xs)) os ms (omega arith))) ∙
-      named x xs (told (n + suc (count_members xs)) os ms)
+      named x xs (uses_told (n + suc (count_members xs)) os ms)
 
   members_merged : (o : ℕ) (around : Option ℕ) (n k : ℕ) (xs : Members) (os : List ObjectEntry) (ms : List MemberEntry) → Behind (n + count_members xs) ms
-      → told n (objects_of_members k xs ++ os) (members_of o around n k xs ++ ms) ≡ uses_in xs ++ told (n + count_members xs) os ms
+      → uses_told n (objects_of_members k xs ++ os) (members_of o around n k xs ++ ms) ≡ uses_in xs ++ uses_told (n + count_members xs) os ms
   members_merged o around n k no_members os ms b = nothing n os ms
   members_merged o around n k (a_member m c xs) os ms b =
       member_told n (a_member_entry o around n m) (objects_of_members k (a_member m c xs) ++ os)
       ((members_inside o n k m ++ members_of o around (n + count_member m) (suc k + rows_in_member m) xs) ++ ms) refl ∙
       ap (λ us. option_to_list (member_item (of_member m false)) ++ us)
-      (ap (λ es. told n es ((members_inside o n k m ++ members_of o around (n + count_member m) (suc k + rows_in_member m) xs) ++ ms))
+      (ap (λ es. uses_told n es ((members_inside o n k m ++ members_of o around (n + count_member m) (suc k + rows_in_member m) xs) ++ ms))
       (assoc (objects_of_member k m) (objects_of_members (suc k + rows_in_member m) xs) os) ∙
-      ap (told n (objects_of_member k m ++ (objects_of_members (suc k + rows_in_member m) xs ++ os)))
+      ap (uses_told n (objects_of_member k m ++ (objects_of_members (suc k + rows_in_member m) xs ++ os)))
       (assoc (members_inside o n k m) (members_of o around (n + count_member m) (suc k + rows_in_member m) xs) ms) ∙
       inside_merged o n k m (objects_of_members (suc k + rows_in_member m) xs ++ os) (members_of o around (n + count_member m) (suc k + rows_in_member m) xs ++ ms)
       (members_behind o around (n + count_member m) (n + count_member m) (suc k + rows_in_member m) xs ms (omega arith) (more _ _ ms (omega arith) b)) ∙
       ap (λ us. uses_inside m ++ us)
       (members_merged o around (n + count_member m) (suc k + rows_in_member m) xs os ms (more _ _ ms (omega arith) b) ∙
       ap (λ us. uses_in xs ++ us) (moved ((n + count_member m) + count_members xs) (n + (count_member m + count_members xs)) os ms (omega arith)))) ∙
-      joined_up m (uses_in xs) (told (n + (count_member m + count_members xs)) os ms)
+      joined_up m (uses_in xs) (uses_told (n + (count_member m + count_members xs)) os ms)
 
   inside_merged : (o n k : ℕ) (m : Member) (os : List ObjectEntry) (ms : List MemberEntry) → Behind (n + count_member m) ms
-      → told n (objects_of_member k m ++ os) (members_inside o n k m ++ ms) ≡ uses_inside m ++ told (n + count_member m) os ms
+      → uses_told n (objects_of_member k m ++ os) (members_inside o n k m ++ ms) ≡ uses_inside m ++ uses_told (n + count_member m) os ms
   inside_merged o n k (id p x q c) os ms b = nothing n os ms
   inside_merged o n k (property p a y x q v) os ms b = value_merged k n (suc k) v os ms b
   inside_merged o n k (bare p a y x q c) os ms b = nothing n os ms
@@ -155,25 +155,25 @@ mutual
   inside_merged o n k (child c) os ms b = object_merged (Some k) n (suc k) c os ms b
 
   value_merged : (row n k : ℕ) (v : Value) (os : List ObjectEntry) (ms : List MemberEntry) → Behind (n + count_value v) ms
-      → told n (objects_of_value row k v ++ os) (members_of_value n k v ++ ms) ≡ uses_of_value v ++ told (n + count_value v) os ms
+      → uses_told n (objects_of_value row k v ++ os) (members_of_value n k v ++ ms) ≡ uses_of_value v ++ uses_told (n + count_value v) os ms
   value_merged row n k (value_object o) os ms b = object_merged (Some row) n k o os ms b
   value_merged row n k (value_list p xs) os ms b = list_merged row n k xs os ms b
   value_merged row n k (value_stmt s) os ms b = nothing n os ms
 
   list_merged : (row n k : ℕ) (xs : Objects) (os : List ObjectEntry) (ms : List MemberEntry) → Behind (n + count_list xs) ms
-      → told n (objects_of_list row k xs ++ os) (members_of_list n k xs ++ ms) ≡ uses_of_objects xs ++ told (n + count_list xs) os ms
+      → uses_told n (objects_of_list row k xs ++ os) (members_of_list n k xs ++ ms) ≡ uses_of_objects xs ++ uses_told (n + count_list xs) os ms
   list_merged row n k (last_object o) os ms b = object_merged (Some row) n k o os ms b
   list_merged row n k (an_object o xs) os ms b =
-      ap (λ es. told n es ((members_with n k o ++ members_of_list (n + count_object o) (k + rows_in_object o) xs) ++ ms))
+      ap (λ es. uses_told n es ((members_with n k o ++ members_of_list (n + count_object o) (k + rows_in_object o) xs) ++ ms))
       (assoc (objects_with (Some row) k o) (objects_of_list row (k + rows_in_object o) xs) os) ∙
-      ap (told n (objects_with (Some row) k o ++ (objects_of_list row (k + rows_in_object o) xs ++ os)))
+      ap (uses_told n (objects_with (Some row) k o ++ (objects_of_list row (k + rows_in_object o) xs ++ os)))
       (assoc (members_with n k o) (members_of_list (n + count_object o) (k + rows_in_object o) xs) ms) ∙
       object_merged (Some row) n k o (objects_of_list row (k + rows_in_object o) xs ++ os) (members_of_list (n + count_object o) (k + rows_in_object o) xs ++ ms)
       (list_behind (n + count_object o) (n + count_object o) (k + rows_in_object o) xs ms (omega arith) (more _ _ ms (omega arith) b)) ∙
       ap (λ us. type_uses o ++ us)
       (list_merged row (n + count_object o) (k + rows_in_object o) xs os ms (more _ _ ms (omega arith) b) ∙
       ap (λ us. uses_of_objects xs ++ us) (moved ((n + count_object o) + count_list xs) (n + (count_object o + count_list xs)) os ms (omega arith))) ∙
-      sym (assoc (type_uses o) (uses_of_objects xs) (told (n + (count_object o + count_list xs)) os ms))
+      sym (assoc (type_uses o) (uses_of_objects xs) (uses_told (n + (count_object o + count_list xs)) os ms))
 
 -- ---- the document
 
@@ -188,8 +188,8 @@ pub all_uses : (t : Table) (os : List ObjectRow) (ms : List MemberRow) (imports 
     → uses_in_rows t 0 os ms ≡ type_uses root
 all_uses t os ms imports root a e =
     rows_alike t 0 os ms (whole_document (document imports root), e) ∙
-    ap (λ es. told 0 es (map (member_entry t) ms)) (a.all_objects ∙ sym (append-nil (objects_with None 0 a.root))) ∙
-    ap (told 0 (objects_with None 0 a.root ++ [])) (a.all_members ∙ sym (append-nil (members_with 0 0 a.root))) ∙
+    ap (λ es. uses_told 0 es (map (member_entry t) ms)) (a.all_objects ∙ sym (append-nil (objects_with None 0 a.root))) ∙
+    ap (uses_told 0 (objects_with None 0 a.root ++ [])) (a.all_members ∙ sym (append-nil (members_with 0 0 a.root))) ∙
     object_merged None 0 0 a.root [] [] tt ∙ append-nil (type_uses a.root) ∙ ap type_uses (same_root t a.imports imports a.root root a.tree e)
 
 -- ---- the code

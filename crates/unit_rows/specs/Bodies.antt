@@ -4,7 +4,7 @@ use Rattle.std.specs.Option.{unwrap_or}
 use Rattle.std.specs.List.{flat_map, filter}
 use Rattle.qml_base.specs.declared.numbers.Place.{Place}
 use Rattle.qml_syntax.specs.Tree.{Units}
-use Rattle.program_names.specs.Written.{WrittenObject, WrittenMember, a_property, a_function, a_value, WrittenValue, by_stmt, Row, row}
+use Rattle.program_names.specs.Written.{WrittenObject, WrittenMember, a_property, a_function, a_value, WrittenValue, by_stmt, OwnedMember, row}
 use Rattle.program_names.specs.Loaded.{Program, unit_at}
 use Rattle.program_names.specs.Layers.{handled}
 use Rattle.unit_rows.specs.Rows.{Body, of_statement, of_function, of_statements}
@@ -30,7 +30,7 @@ body_of p d o (a_value at path v) = body_of_value (parameters_for p d o path) v
 body_of p d o (a_function q f n at) = of_function f ∷ []
 body_of p d o _ = []
 
-abbrev body_of_row : Program → ℕ → Row → List Body
+abbrev body_of_row : Program → ℕ → OwnedMember → List Body
 body_of_row p d r = body_of p d r.object r.member
 
 -- a member with its object and the number of its body
@@ -39,12 +39,12 @@ pub record NumberedMember : Type 0 where
   pub member : WrittenMember
   pub body : ℕ
 
-abbrev numbered_from : Program → ℕ → ℕ → List Row → List NumberedMember
+abbrev numbered_from : Program → ℕ → ℕ → List OwnedMember → List NumberedMember
 numbered_from p d n [] = []
 numbered_from p d n (r ∷ rest) =
     record { object = r.object; member = r.member; body = n } ∷ numbered_from p d (n + length (body_of_row p d r)) rest
 
-abbrev rows_by_object : ℕ → List WrittenObject → List Row
+abbrev rows_by_object : ℕ → List WrittenObject → List OwnedMember
 rows_by_object o [] = []
 rows_by_object o (w ∷ rest) = map (row o) w.members ++ rows_by_object (suc o) rest
 

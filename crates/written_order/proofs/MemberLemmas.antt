@@ -5,7 +5,7 @@ use Rattle.std.specs.Option.{unwrap_or}
 use Rattle.std.proofs.lemmas.Bool.Decides.{nat_tests}
 use Rattle.std.proofs.lemmas.List.{append-nil}
 use Rattle.std.proofs.lemmas.Grind.{flat_map-append}
-use Rattle.program_names.specs.Written.{WrittenObject, WrittenMember, Row, row}
+use Rattle.program_names.specs.Written.{WrittenObject, WrittenMember, OwnedMember, row}
 use Rattle.program_names.specs.Loaded.{Program, unit_at, no_object}
 use Rattle.document_rows.specs.WrittenObjects.{members_of_object}
 use Rattle.load_faults.specs.Faults.{Faults, first_from, objects_from, each_member}
@@ -24,8 +24,8 @@ abbrev pub by_object : {X : Type 0} → (ℕ → WrittenMember → List X) → �
 by_object g o [] = []
 by_object g o (w ∷ ws) = flat_map (g o) w.members ++ by_object g (suc o) ws
 
-abbrev pub by_rows : {X : Type 0} → (ℕ → WrittenMember → List X) → List Row → List X
-by_rows g rows = flat_map (λ (r : Row). g r.object r.member) rows
+abbrev pub by_rows : {X : Type 0} → (ℕ → WrittenMember → List X) → List OwnedMember → List X
+by_rows g rows = flat_map (λ (r : OwnedMember). g r.object r.member) rows
 
 -- ---- those of a key
 
@@ -62,7 +62,7 @@ owned_members : {X : Type 0} (key : X → ℕ) (g : ℕ → WrittenMember → Li
 owned_members key g own o [] = tt
 owned_members key g own o (m ∷ ms) = owned_both key o (g o m) (flat_map (g o) ms) (own o m) (owned_members key g own o ms)
 
-rows_key : {X : Type 0} (key : X → ℕ) (g : ℕ → WrittenMember → List X) → Owned key g → (k : ℕ) (rows : List Row)
+rows_key : {X : Type 0} (key : X → ℕ) (g : ℕ → WrittenMember → List X) → Owned key g → (k : ℕ) (rows : List OwnedMember)
     → of_key key k (by_rows g rows) ≡ flat_map (g k) (members_of_object k rows)
 rows_key key g own k [] = refl
 rows_key {X} key g own k (r ∷ rs) =
@@ -132,13 +132,13 @@ in_both_orders key f s g own p d h kept =
 
 -- ---- members that tell by themselves
 
-abbrev one_row : ℕ → WrittenMember → List Row
+abbrev one_row : ℕ → WrittenMember → List OwnedMember
 one_row o m = row o m ∷ []
 
-abbrev number : Row → ℕ
+abbrev number : OwnedMember → ℕ
 number r = r.object
 
-abbrev by_itself : (ℕ → WrittenMember → Faults) → List Row → Row → Faults
+abbrev by_itself : (ℕ → WrittenMember → Faults) → List OwnedMember → OwnedMember → Faults
 by_itself f seen r = f r.object r.member
 
 own_rows : Owned number one_row
@@ -147,24 +147,24 @@ own_rows o m = (refl, tt)
 apart : (f : ℕ → WrittenMember → Faults) → Apart number (by_itself f)
 apart f x y latest seen e = refl
 
-told_flat : (f : ℕ → WrittenMember → Faults) (seen rows : List Row) → told (by_itself f) seen rows ≡ flat_map (λ (r : Row). f r.object r.member) rows
+told_flat : (f : ℕ → WrittenMember → Faults) (seen rows : List OwnedMember) → told (by_itself f) seen rows ≡ flat_map (λ (r : OwnedMember). f r.object r.member) rows
 told_flat f seen [] = refl
 told_flat f seen (r ∷ rs) = ap (λ t. f r.object r.member ++ t) (told_flat f (r ∷ seen) rs)
 
-same_rows : (f : ℕ → WrittenMember → Faults) (rows : List Row) → flat_map (λ (r : Row). f r.object r.member) (by_rows one_row rows) ≡ flat_map (λ (r : Row). f r.object r.member) rows
+same_rows : (f : ℕ → WrittenMember → Faults) (rows : List OwnedMember) → flat_map (λ (r : OwnedMember). f r.object r.member) (by_rows one_row rows) ≡ flat_map (λ (r : OwnedMember). f r.object r.member) rows
 same_rows f [] = refl
 same_rows f (r ∷ rs) = ap (λ t. f r.object r.member ++ t) (same_rows f rs)
 
-of_object : (f : ℕ → WrittenMember → Faults) (o : ℕ) (ms : List WrittenMember) → flat_map (λ (r : Row). f r.object r.member) (flat_map (one_row o) ms) ≡ flat_map (f o) ms
+of_object : (f : ℕ → WrittenMember → Faults) (o : ℕ) (ms : List WrittenMember) → flat_map (λ (r : OwnedMember). f r.object r.member) (flat_map (one_row o) ms) ≡ flat_map (f o) ms
 of_object f o [] = refl
 of_object f o (m ∷ ms) = ap (λ t. f o m ++ t) (of_object f o ms)
 
 of_objects : (f : ℕ → WrittenMember → Faults) (o : ℕ) (ws : List WrittenObject)
-    → flat_map (λ (r : Row). f r.object r.member) (by_object one_row o ws) ≡ objects_from o ws (λ o w. flat_map (f o) w.members)
+    → flat_map (λ (r : OwnedMember). f r.object r.member) (by_object one_row o ws) ≡ objects_from o ws (λ o w. flat_map (f o) w.members)
 of_objects f o [] = refl
 of_objects f o (w ∷ ws) =
-    flat_map-append (λ (r : Row). f r.object r.member) (flat_map (one_row o) w.members) (by_object one_row (suc o) ws) ∙
-    ap (λ t. t ++ flat_map (λ (r : Row). f r.object r.member) (by_object one_row (suc o) ws)) (of_object f o w.members) ∙
+    flat_map-append (λ (r : OwnedMember). f r.object r.member) (flat_map (one_row o) w.members) (by_object one_row (suc o) ws) ∙
+    ap (λ t. t ++ flat_map (λ (r : OwnedMember). f r.object r.member) (by_object one_row (suc o) ws)) (of_object f o w.members) ∙
     ap (λ t. flat_map (f o) w.members ++ t) (of_objects f (suc o) ws)
 
 pub members_alike : (p : Program) (d : ℕ) (f : ℕ → WrittenMember → Faults) → HasMembers p d → ToldAlike (faults_written p d f) (each_member p d f)

@@ -6,7 +6,7 @@ use Rattle.qml_syntax.specs.Tree.{Units}
 use Rattle.qml_types.specs.declared.kind.TypeNo.TheVariants as no
 use Rattle.program_names.specs.declared.fault.Fault.{Fault}
 use Rattle.program_names.specs.Names.{changed, is_in}
-use Rattle.program_names.specs.Written.{WrittenMember, a_property, an_alias, a_signal, a_function, Row}
+use Rattle.program_names.specs.Written.{WrittenMember, a_property, an_alias, a_signal, a_function, OwnedMember}
 use Rattle.program_names.specs.Loaded.{Program, unit_at, object_at}
 use Rattle.program_names.specs.Layers.{Named, type_names, is_type}
 use Rattle.document_rows.specs.WrittenObjects.{members_of_object}
@@ -26,11 +26,11 @@ ToldAlike some others = (kept : Option Fault) → first_from kept some ≡ first
 
 -- what each member tells
 abbrev pub faults_written : Program → ℕ → (ℕ → WrittenMember → Faults) → Faults
-faults_written p d f = flat_map (λ (r : Row). f r.object r.member) (unit_at p d).rows
+faults_written p d f = flat_map (λ (r : OwnedMember). f r.object r.member) (unit_at p d).rows
 
 -- the names that each member uses
 abbrev pub names_written : Program → ℕ → (ℕ → WrittenMember → List NameRow) → List NameRow
-names_written p d f = flat_map (λ (r : Row). f r.object r.member) (unit_at p d).rows
+names_written p d f = flat_map (λ (r : OwnedMember). f r.object r.member) (unit_at p d).rows
 
 -- ---- the names that a member of an object uses
 
