@@ -7,7 +7,7 @@ ghost use Rattle.js_locals.specs.Texts.{StandsAs};
 ghost use Rattle.eval_tests.specs.Plain.{seen_at, found_cell, is_global, found_other, plain_names, code_of, table_at, text_in};
 
 use evaluation::{Seen, View};
-use js_operators::named;
+use js_methods::named;
 use js_subset::Code;
 use qml_base::{CellNo, ExprNo, Found, Home, ObjNo, UnitNo};
 use qml_syntax::Tree;

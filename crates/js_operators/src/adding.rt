@@ -13,7 +13,7 @@ use qml_value::{TextOfFault, Value};
 use std::alloc::Global;
 
 /// The most units of a text that is not too heavy: it weighs one more.
-pub(crate) const MOST_UNITS: usize = 1_048_575;
+pub const MOST_UNITS: usize = 1_048_575;
 
 /// Two texts in one.
 fn glued(alloc: Global, a: &Text, b: &Text) -> Result<Text, NoMemory>
@@ -63,7 +63,7 @@ fn behind_text_of(alloc: Global, left: &Value, b: &Text) -> Result<Ended, NoMemo
 
 /// The text of a value, as a value.
 #[tactic(auto, using(crate::proofs::WeightLemmas::heavy_text, crate::proofs::WeightLemmas::light_text))]
-pub(crate) fn text_value(alloc: Global, value: &Value) -> Result<Ended, NoMemory>
+pub fn text_value(alloc: Global, value: &Value) -> Result<Ended, NoMemory>
     ensures { IfOk result (λ e. e ≡ weighed (Value.Text (text_of value.now))) }
 {
     match value.text_of(alloc) {

@@ -10,8 +10,8 @@ use js_meaning::Rounding;
 use qml_base::Cause;
 use qml_value::{Num, Value};
 
-/// A number, or Past where its magnitude passes 2^53.
-pub(crate) fn within(n: i128) -> Ended
+/// A number, or Past where its magnitude passes 2^53 (ECMA-262, 21.1.2.6: whole numbers are exact up to one less).
+pub fn within(n: i128) -> Ended
     ensures { result ≡ bounded n }
 {
     match Num::new(n) {
@@ -47,7 +47,7 @@ fn remainder_of(a: i64, b: i64) -> i128
     i128::from(a) % i128::from(b)
 }
 
-/// `/` of numbers: an exact quotient.
+/// `/` of numbers: an exact quotient (ECMA-262, 6.1.6.1.5 Number::divide, on whole numbers).
 #[tactic(auto, using(js_meaning::proofs::NumberLemmas::quotient_is, js_meaning::proofs::NumberLemmas::quotient_isnt, js_meaning::proofs::NumberLemmas::quotient_zero))]
 pub(crate) fn divided(a: i64, b: i64) -> Ended
     ensures { result ≡ quotient a b }

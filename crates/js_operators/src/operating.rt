@@ -28,7 +28,7 @@ fn both_bits(left: &Value, right: &Value) -> Option<(u32, u32)>
     }
 }
 
-/// `-` of numbers.
+/// `-` of numbers (ECMA-262, 13.8.2 by 6.1.6.1.8 Number::subtract).
 fn minus(left: &Value, right: &Value) -> Ended
     ensures { result ≡ operate Operator.Minus left.now right.now }
 {
@@ -38,7 +38,7 @@ fn minus(left: &Value, right: &Value) -> Ended
     }
 }
 
-/// `*` of numbers.
+/// `*` of numbers (ECMA-262, 13.7 by 6.1.6.1.4 Number::multiply).
 fn times(left: &Value, right: &Value) -> Ended
     ensures { result ≡ operate Operator.Times left.now right.now }
 {
@@ -48,7 +48,7 @@ fn times(left: &Value, right: &Value) -> Ended
     }
 }
 
-/// `/` of numbers: exact, or a throw.
+/// `/` of numbers: exact, or a throw (ECMA-262, 13.7 by 6.1.6.1.5 Number::divide).
 fn quotient(left: &Value, right: &Value) -> Ended
     ensures { result ≡ operate Operator.Divide left.now right.now }
 {
@@ -58,7 +58,7 @@ fn quotient(left: &Value, right: &Value) -> Ended
     }
 }
 
-/// `%` of numbers.
+/// `%` of numbers (ECMA-262, 13.7 by 6.1.6.1.6 Number::remainder).
 fn remainder(left: &Value, right: &Value) -> Ended
     ensures { result ≡ operate Operator.Remainder left.now right.now }
 {
@@ -68,7 +68,7 @@ fn remainder(left: &Value, right: &Value) -> Ended
     }
 }
 
-/// `|` on 32 bits.
+/// `|` on 32 bits (ECMA-262, 13.12 by 6.1.6.1.19 Number::bitwiseOR).
 fn bit_or(left: &Value, right: &Value) -> Ended
     ensures { result ≡ operate Operator.BitOr left.now right.now }
 {
@@ -78,7 +78,7 @@ fn bit_or(left: &Value, right: &Value) -> Ended
     }
 }
 
-/// `^` on 32 bits.
+/// `^` on 32 bits (ECMA-262, 13.12 by 6.1.6.1.18 Number::bitwiseXOR).
 fn bit_xor(left: &Value, right: &Value) -> Ended
     ensures { result ≡ operate Operator.BitXor left.now right.now }
 {
@@ -88,7 +88,7 @@ fn bit_xor(left: &Value, right: &Value) -> Ended
     }
 }
 
-/// `&` on 32 bits.
+/// `&` on 32 bits (ECMA-262, 13.12 by 6.1.6.1.17 Number::bitwiseAND).
 fn bit_and(left: &Value, right: &Value) -> Ended
     ensures { result ≡ operate Operator.BitAnd left.now right.now }
 {
@@ -98,7 +98,7 @@ fn bit_and(left: &Value, right: &Value) -> Ended
     }
 }
 
-/// `<<` on 32 bits, the count modulo 32.
+/// `<<` on 32 bits, the count modulo 32 (ECMA-262, 13.9.1 by 6.1.6.1.9 Number::leftShift).
 fn shift_left(left: &Value, right: &Value) -> Ended
     ensures { result ≡ operate Operator.ShiftLeft left.now right.now }
 {
@@ -108,7 +108,7 @@ fn shift_left(left: &Value, right: &Value) -> Ended
     }
 }
 
-/// `>>` on 32 bits, the count modulo 32.
+/// `>>` on 32 bits, the count modulo 32 (ECMA-262, 13.9.2 by 6.1.6.1.10 Number::signedRightShift).
 fn shift_right(left: &Value, right: &Value) -> Ended
     ensures { result ≡ operate Operator.ShiftRight left.now right.now }
 {
@@ -118,7 +118,7 @@ fn shift_right(left: &Value, right: &Value) -> Ended
     }
 }
 
-/// `>>>` on 32 bits, the count modulo 32.
+/// `>>>` on 32 bits, the count modulo 32 (ECMA-262, 13.9.3 by 6.1.6.1.11 Number::unsignedRightShift).
 fn shift_right_unsigned(left: &Value, right: &Value) -> Ended
     ensures { result ≡ operate Operator.ShiftRightUnsigned left.now right.now }
 {
@@ -128,7 +128,7 @@ fn shift_right_unsigned(left: &Value, right: &Value) -> Ended
     }
 }
 
-/// The left operand or the right one.
+/// The left operand or the right one, as `&&`, `||` and `??` give it (ECMA-262, 13.13).
 fn either(is_left: bool, left: Value, right: Value) -> Ended
     ensures { result ≡ Ended.Value (if is_left then left else right) }
 {

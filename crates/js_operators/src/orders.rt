@@ -17,7 +17,7 @@ fn bool_value(b: bool) -> Ended
 }
 
 /// Whether two values are the same (ECMA-262, 7.2.15 IsStrictlyEqual, with lists and fields by their parts).
-pub(crate) fn same(left: &Value, right: &Value) -> bool
+pub fn same(left: &Value, right: &Value) -> bool
     ensures { result ≡ same_values left.now right.now }
 {
     left.same(right)

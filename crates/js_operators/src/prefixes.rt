@@ -26,6 +26,7 @@ fn kind_name(value: &Value) -> &'static [u8]
     }
 }
 
+/// `-` before a number (ECMA-262, 13.5.5 by 6.1.6.1.1 Number::unaryMinus).
 fn minus(value: &Value) -> Ended
     ensures { result ≡ operate_prefix Prefix.Minus value.now }
 {
@@ -35,6 +36,7 @@ fn minus(value: &Value) -> Ended
     }
 }
 
+/// `+` before a number, which stays (ECMA-262, 13.5.4).
 fn plus(value: &Value) -> Ended
     ensures { result ≡ operate_prefix Prefix.Plus value.now }
 {
@@ -44,6 +46,7 @@ fn plus(value: &Value) -> Ended
     }
 }
 
+/// `~` before a number (ECMA-262, 13.5.6 by 6.1.6.1.2 Number::bitwiseNOT).
 fn inverted(value: &Value) -> Ended
     ensures { result ≡ operate_prefix Prefix.BitNot value.now }
 {

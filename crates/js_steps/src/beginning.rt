@@ -10,11 +10,10 @@ ghost use Rattle.js_frames.specs.Moves.{Turns, next_of, typed_found, BeginsChain
 
 use crate::fields::fields_begun;
 use crate::finishing::all_from;
-use crate::looking::{arrive, found_value, local_value, name_value, next_of, threw};
-use crate::resuming::pushed;
 use evaluation::{Args, Evaluated, View};
 use js_frames::{Before, Frame, Gives, Machine, Next, Purpose, To};
 use js_locals::{first_part, next_part, node_at};
+use js_looking::{arrive, found_value, local_value, name_value, next_of, pushed, threw};
 use js_operators::weighed;
 use qml_base::{Cause, Found, Home};
 use qml_syntax::{Literal, Node, Postfix, Prefix, Tree};

@@ -8,12 +8,11 @@ ghost use Rattle.js_fields.specs.Entries.{fields_from};
 ghost use Rattle.js_frames.specs.Standing.{standing};
 ghost use Rattle.js_frames.specs.Moves.{FieldBegins, FieldsFrom, BeginsFields};
 
-use crate::looking::next_of;
-use crate::resuming::pushed;
 use evaluation::Ended;
 use js_fields::{Entries, Entry, fields_of};
 use js_frames::{Frame, Machine, Next};
 use js_locals::{first_part, is_key, next_part, node_at};
+use js_looking::{next_of, pushed};
 use js_operators::weighed;
 use qml_base::Cause;
 use qml_syntax::Tree;

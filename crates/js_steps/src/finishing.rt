@@ -9,13 +9,13 @@ ghost use Rattle.js_frames.specs.Standing.{standing};
 ghost use Rattle.js_frames.specs.Meant.{callee_of};
 ghost use Rattle.js_frames.specs.Moves.{Turns, arrive_part, PartGives, Finishes, AllFrom, RoundedFirst, FirstBy, Args as ArgsMove};
 
-use crate::looking::{arrive, arrive_ended, next_of, threw};
-use crate::resuming::pushed;
 use evaluation::{Args, Evaluated, Seen, View};
 use js_frames::{Callee, Frame, Machine, Next, Purpose, To};
 use js_locals::{first_part, name_of, next_part, node_at};
+use js_looking::{arrive, arrive_ended, next_of, pushed, threw};
 use js_meaning::Rounding;
-use js_operators::{first_of, math, method, named, part_of, text_from, weighed_list};
+use js_methods::{first_of, math, method, named, part_of, text_from};
+use js_operators::weighed_list;
 use qml_base::{Cause, CellNo};
 use qml_syntax::{Node, Tree};
 use qml_text::{NoMemory, Text};

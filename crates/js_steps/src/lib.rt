@@ -5,12 +5,10 @@
 mod beginning;
 mod fields;
 mod finishing;
-mod looking;
 mod resuming;
 mod stepping;
 
 pub use beginning::{begun, is_name, signs, steps_by};
 pub use finishing::arguments;
-pub use looking::{element, found_value, local_value, member, name_value, next_of, threw};
-pub use resuming::{choose_on, link_on, operand, operated, pushed, resumed, right_on};
+pub use resuming::{choose_on, link_on, operand, operated, resumed, right_on};
 pub use stepping::stepped;

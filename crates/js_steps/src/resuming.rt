@@ -7,28 +7,20 @@ ghost use Rattle.js_meaning.specs.Looking.{decides};
 ghost use Rattle.js_meaning.specs.Eval.{if_no_link, operate_by};
 ghost use Rattle.js_locals.specs.Laid.{laid, op_of, is_choice, links_in, link_op, IsOperand};
 ghost use Rattle.js_frames.specs.Standing.{standing};
-ghost use Rattle.js_frames.specs.Moves.{Pushes, LinkOn, ChainOn, OtherChoice, ChooseOn, AllFrom, RightOn, Resumes};
+ghost use Rattle.js_frames.specs.Moves.{LinkOn, ChainOn, OtherChoice, ChooseOn, AllFrom, RightOn, Resumes};
 
 use crate::fields::field_on;
 use crate::finishing::all_from;
-use crate::looking::{element, next_of};
 use evaluation::{Args, Ended, View};
 use js_frames::{Before, Frame, Machine, Next, Purpose, To};
 use js_locals::{first_part, next_part, node_at};
+use js_looking::{element, next_of, pushed};
 use js_meaning::Rounding;
 use js_operators::{decided, operate, operate_prefix, operate_rounded, truth};
 use qml_syntax::{Node, Operator, Tree};
 use qml_text::NoMemory;
 use qml_value::Value;
 use std::alloc::Global;
-
-/// Begins a part behind a new frame.
-pub fn pushed(machine: &mut Machine, frame: Frame, at: usize) -> Result<Next, NoMemory>
-    ensures { IfOk result (λ y. Pushes frame at (standing machine.old) (standing machine.new) y) }
-{
-    machine.frames.push(frame)?;
-    Ok(Next::Begin(at))
-}
 
 /// The operator of a chain's node.
 fn operator_of(node: &Node) -> Operator

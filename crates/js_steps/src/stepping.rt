@@ -9,14 +9,13 @@ ghost use Rattle.js_frames.specs.Awaiting.{awaits_spot};
 ghost use Rattle.js_frames.specs.Standing.{standing};
 ghost use Rattle.js_frames.specs.Moves.{arrive, ValueBefore, NamedMember, MemberOfName, MemberNext, ElementNext, method_called, NamedCallee, MemberCallee, ValueCallee, script_callee, global_callee, CalleeNext, StepNext, ElementSpot, SpotNext, ends_steps, is_spot, StepBy, Steps};
 
-use crate::looking::{
-    arrive, found_member, found_value, local_value, member, name_value, read_cell, threw,
-};
-use crate::resuming::pushed;
 use evaluation::{Evaluated, View};
 use js_frames::{Before, Callee, Frame, Machine, Next, To};
 use js_locals::{first_part, name_of, next_part, node_at};
-use js_operators::named;
+use js_looking::{
+    arrive, found_member, found_value, local_value, member, name_value, pushed, read_cell, threw,
+};
+use js_methods::named;
 use qml_base::{Cause, CellNo, Found, Home, ObjNo, UnitNo};
 use qml_syntax::{Node, Tree};
 use qml_text::{NoMemory, Text};

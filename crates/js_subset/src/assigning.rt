@@ -12,12 +12,13 @@ ghost use Rattle.js_frames.specs.Moves.{local_in, OrElse, Turns};
 ghost use Rattle.js_frames.specs.Spots.{TargetsAt, local_spot, NameSpot, StepsSpot, SpotBegins, SpotAt, SpotGives, Rebinds, RightBegins, PlainlyFound, FoundBy, is_bound, FoundFor, SpotWrites, Stores, updated_by, Assigns};
 
 use crate::binding::is_bound;
-use crate::statements::writes;
 use evaluation::{Ended, Evaluated, View};
 use js_frames::{Frame, Gives, Machine, Next, Spot, To};
 use js_locals::{Local, copied, find, first_part, is_expression, name_of, next_part, node_at};
+use js_looking::{element, found_value, member, name_value, threw};
 use js_operators::operate;
-use js_steps::{element, found_value, is_name, member, name_value, steps_by, threw};
+use js_statements::writes;
+use js_steps::{is_name, steps_by};
 use qml_base::{Cause, Home};
 use qml_syntax::{Assignment, Node, Operator, Tree};
 use qml_text::{NoMemory, Text};

@@ -6,7 +6,7 @@ ghost use Rattle.js_frames.specs.Meant.{bound_of};
 ghost use Rattle.js_frames.specs.Spots.{is_bound, is_steps, is_named, is_member, is_function, single_function, BoundAt};
 
 use js_locals::{first_part, next_part, node_at};
-use js_operators::named;
+use js_methods::named;
 use qml_syntax::{Node, Tree};
 use qml_text::NoMemory;
 

@@ -11,7 +11,7 @@ ghost use Rattle.js_frames.specs.Stepping.{BodyBegun, Enters, Returns};
 use evaluation::Args;
 use js_frames::{Before, Code, Frame, Here, Machine, Next};
 use js_locals::{Local, Locals, bind, declare, let_names, row_behind, var_names};
-use js_steps::threw;
+use js_looking::threw;
 use qml_base::{Cause, ExprNo, Home, ObjNo};
 use qml_syntax::Tree;
 use qml_text::NoMemory;

@@ -1,8 +1,7 @@
 //! Evaluation of the texts of bindings. What a text comes to is the definition of `js_meaning`; `eval` answers it over any
 //! view of cells and names, with the cells that it read, in order, and one step. The code is a machine whose frames mean
-//! what is still to be done (`js_frames`), so that nothing recurses; its moves at expressions are those of `js_steps`, and here
-//! are those at statements, assignments and calls. A literal of fields isn't there yet, and answers want of
-//! memory where it is reached.
+//! what is still to be done (`js_frames`), so that nothing recurses; its moves at expressions are those of `js_steps`, those
+//! at statements of `js_statements`, and here are those at assignments and calls.
 #![tactic(auto)]
 
 mod assigning;
@@ -11,10 +10,9 @@ mod calling;
 mod evaluating;
 mod running;
 mod starting;
-mod statements;
-mod unwinding;
 
 pub use evaluating::{UnitRules, eval};
 pub use evaluation::{Rules, View};
 pub use js_frames::{Code, Machine};
-pub use js_operators::{math, method, operate, operate_prefix, operate_rounded, text_from};
+pub use js_methods::{math, method, text_from};
+pub use js_operators::{operate, operate_prefix, operate_rounded};

@@ -9,11 +9,10 @@ ghost use Rattle.js_progress.specs.Moving.{MovesAt, Moves, Nears};
 
 use crate::assigning::{assigned, found_for, is_of_assignment, spot, targets};
 use crate::calling::{entered, returned};
-use crate::statements::{declared, rested, run_at, taken};
-use crate::unwinding::{gives, goes_again, goes_on, stops};
 use evaluation::{Evaluated, View};
 use js_direct::begun_directly;
 use js_frames::{Code, Frame, Here, Machine, Next, Spot};
+use js_statements::{declared, gives, goes_again, goes_on, rested, run_at, stops, taken};
 use js_steps::{arguments, resumed, signs, stepped};
 use qml_base::Home;
 use qml_syntax::Tree;

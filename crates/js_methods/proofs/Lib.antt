@@ -1,0 +1,5 @@
+mod MemberLemmas
+mod SearchLemmas
+mod MethodLemmas
+mod JoinLemmas
+mod SplitLemmas

@@ -1,5 +1,0 @@
-use Rattle.js_operators.proofs.MemberLemmas.{units_told}
-use Rattle.js_operators.proofs.members.same_name.Goals as goal
-
-pub returns : goal.returns
-returns c = units_told c.same.result c.args.a.now c.args.b.now c.same.ensures
