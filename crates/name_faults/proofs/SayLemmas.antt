@@ -22,8 +22,9 @@ use Rattle.program_tables.specs.Building.{is_group, is_inside}
 use Rattle.program_tables.specs.RowsSay.{RowsSay}
 use Rattle.program_tables.specs.Stands.{is_there}
 use Rattle.program_tables.specs.Types.{any_of, base_in}
+use Rattle.program_tables.proofs.GroupLemmas.{is_filled, inside_alike, filled_by}
 use Rattle.document_tables.specs.Groups.{insides}
-use Rattle.document_tables.proofs.ThereLemmas.{is_filled, inside_alike, filled_by, AllThere}
+use Rattle.document_tables.proofs.ThereLemmas.{AllThere}
 use Rattle.written_order.specs.InOrder.{id_rows, role_rows, names_declared, has_by_type, declared_row as row_written, declared_rows}
 use Rattle.name_faults.specs.Names.{by_rows, id_in, id_of, value_under, value_in, value_of, role_of, is_taken, declared_row, names_in, declared_of}
 
