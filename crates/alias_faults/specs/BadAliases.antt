@@ -1,7 +1,6 @@
 -- The faults of aliases that end at nothing, row after row.
 use Rattle.std.specs.Prelude.{◌≡◌, ℕ, suc, List, [], ◌∷◌, ◌++◌, true, slice_get, Option, Some, None}
 use Rattle.std.specs.List.{flat_map}
-use Rattle.qml_base.specs.declared.load_cause.LoadCause.TheVariants as cause
 use Rattle.program_names.specs.Written.{OwnedMember}
 use Rattle.program_names.specs.Loaded.{Program, unit_at}
 use Rattle.program_names.specs.Components.{Roots}
