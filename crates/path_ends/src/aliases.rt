@@ -1,11 +1,10 @@
 //! What is kept of aliases and ids.
 
 ghost use Rattle.std.specs.Prelude.{◌≡◌, [], ◌∷◌, Some, map, option_copied, IfOk};
-ghost use Rattle.alias_tables.specs.Roots.{root_at};
 ghost use Rattle.path_ends.specs.Said as s;
 
 use crate::ends::PathEnd;
-use alias_tables::object_of_id;
+use alias_tables::{object_of_id, root_at};
 use document_members::{Member, NamePath};
 use name_table::NameTable;
 use program_tables::{UnitRow, is_group, is_inside};
@@ -93,15 +92,6 @@ pub(crate) fn id_seen(
     match units.get(document) {
         Some(unit) => object_of_id(&unit.ids, root_at(&unit.roots, object), name),
         None => None,
-    }
-}
-
-fn root_at(roots: &[usize], object: usize) -> usize
-    ensures { result ≡ root_at roots.now object }
-{
-    match roots.get(object) {
-        Some(root) => *root,
-        None => 0,
     }
 }
 
