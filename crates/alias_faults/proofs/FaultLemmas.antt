@@ -1,5 +1,5 @@
 -- Faults of aliases, row after row.
-use Rattle.std.proofs.Common.{◌≡◌, ◌∙◌, ap, sym, refl, subst, ℕ, zero, suc, ◌+◌, ◌<◌, ◌≤◌, arith, Bool, true, false, List, [], ◌∷◌, ◌++◌, length, map, flat_map, get_or, drop, add-one, drop-cons, Option, Some, None, is_some}
+use Rattle.std.proofs.Common.{◌≡◌, ◌∙◌, ap, sym, refl, subst, ℕ, suc, ◌+◌, ◌<◌, ◌≤◌, arith, Bool, true, false, List, [], ◌∷◌, ◌++◌, length, map, flat_map, get_or, drop, add-one, drop-cons, Option, Some, None, is_some}
 use Rattle.std.specs.Prelude.{◌||◌, slice_get}
 use Rattle.std.specs.Option.{option_map, option_and_then, unwrap_or}
 use Rattle.std.proofs.Math.ListN.{drop_of_length-le}
@@ -21,8 +21,10 @@ use Rattle.program_tables.specs.declared.building.UnitRow.{UnitRow}
 use Rattle.program_tables.specs.Building.{is_group, is_inside}
 use Rattle.program_tables.specs.RowsSay.{RowsSay}
 use Rattle.program_tables.specs.Stands.{is_there}
+use Rattle.program_tables.proofs.GroupLemmas.{is_filled, inside_alike, filled_by}
 use Rattle.load_faults.specs.Faults.{Faults, first_from}
 use Rattle.load_faults.proofs.FirstLemmas.{first_from-append}
+use Rattle.load_faults.specs.Aliases.{bad_end, bad_alias}
 use Rattle.path_ends.specs.declared.aliases.Alias.{Alias}
 use Rattle.path_ends.specs.declared.aliases.UnitAliases.{UnitAliases}
 use Rattle.path_ends.specs.declared.aliases.UnitIds.{UnitIds}
@@ -30,7 +32,7 @@ use Rattle.path_ends.specs.declared.aliases.UnitEnds.{UnitEnds}
 use Rattle.path_ends.specs.Said.{joined, alias_in, target_of, SaidAlias, told, said, target_given, told_by, aliases_told}
 use Rattle.path_ends.specs.Known.{KnowsAll, Tells}
 use Rattle.path_ends.proofs.ProgramLemmas.{alias_as_meant}
-use Rattle.alias_faults.specs.BadAliases.{bad_end, bad_row, bad_rows, bad_alias, bad_written, AreThere}
+use Rattle.alias_faults.specs.BadAliases.{bad_row, bad_rows, bad_written, AreThere}
 
 pub one_row : (known : List UnitEnds) (d : ℕ) (rows : List (Option Alias)) (i : ℕ) (x : Option Alias) (kept kept' all : Option Fault) → i < length rows
     → kept' ≡ first_from kept (bad_row known d i (get_or rows i x)) → first_from kept (bad_rows known d i (drop i rows)) ≡ all
@@ -44,27 +46,6 @@ one_row known d rows i x kept kept' all h e l =
 pub all_told : (known : List UnitEnds) (d : ℕ) (rows : List (Option Alias)) (i : ℕ) (kept all : Option Fault) → length rows ≤ i
     → first_from kept (bad_rows known d i (drop i rows)) ≡ all → kept ≡ all
 all_told known d rows i kept all past e = subst (λ some. first_from kept (bad_rows known d i some) ≡ all) (drop_of_length-le rows past) e
-
--- ---- groups
-
-abbrev is_filled : List Units → Bool
-is_filled [] = false
-is_filled (n ∷ ns) = true
-
-inside_alike : (paths : List (List Units)) (g : Option ℕ) → is_inside (map is_filled paths) g ≡ is_filled (path_at paths g)
-inside_alike paths None = refl
-inside_alike paths (Some k) = at paths k
-  where
-    at : (paths : List (List Units)) (k : ℕ) → unwrap_or (slice_get (map is_filled paths) k) false ≡ is_filled (unwrap_or (slice_get paths k) [])
-    at [] k = refl
-    at (x ∷ paths) zero = refl
-    at (x ∷ paths) (suc k) = at paths k
-
-filled_by : (before : List Units) (x : Member) → is_filled (before ++ added_by x) ≡ (is_filled before || is_group x)
-filled_by (n ∷ ns) x = refl
-filled_by [] (m.Group path) = refl
-filled_by [] (m.Id w n at) = refl
-filled_by [] _ = refl
 
 -- ---- one row
 

@@ -11,9 +11,9 @@ use Rattle.qml_types.specs.declared.kind.TypeRef.TheVariants.{Builtin, Document 
 use Rattle.program_names.specs.declared.fault.Fault.{Fault}
 use Rattle.program_names.specs.Written.{WrittenObject, WrittenValue, by_stmt}
 use Rattle.program_names.specs.Loaded.{Program, unit_at, type_of_object}
-use Rattle.program_names.specs.Layers.{NameMeaning, the_children, is_type, meaning}
+use Rattle.program_names.specs.Layers.{is_type}
 use Rattle.program_names.specs.Components.{Roots, owner, root_of, enclosing, id_in}
-use Rattle.program_names.specs.ComponentRoots.{target_in, id_seen, id_of}
+use Rattle.program_names.specs.ComponentRoots.{target_in, id_seen, id_of, is_seen as is_seen_in, has_name, unless_hidden, id_outwards}
 use Rattle.program_tables.specs.declared.built_in.BuiltInName.{BuiltInName}
 use Rattle.program_tables.specs.declared.built_in.BuiltInName.TheVariants as b
 use Rattle.program_tables.specs.declared.names.Meaning.{Meaning}
@@ -95,25 +95,6 @@ ends_at_last zero us ids owners d hidden root word all h l = l
 ends_at_last (suc k) us ids owners d hidden root word all h l = absurd (omega arith)
 
 -- ---- the definition, by the words that it is made of
-
-abbrev is_seen_in : Option NameMeaning → Bool
-is_seen_in None = false
-is_seen_in (Some the_children) = false
-is_seen_in (Some x) = true
-
-abbrev has_name : Program → ℕ → ℕ → Units → Bool
-has_name p d o n = is_seen_in (meaning p d o n)
-
-abbrev unless_hidden : Option ℕ → Bool → Option ℕ → Option ℕ
-unless_hidden (Some o) hidden further = Some o
-unless_hidden None true further = None
-unless_hidden None false further = further
-
-abbrev id_outwards : ℕ → Program → Roots → ℕ → Bool → ℕ → Units → Option ℕ
-id_outwards zero p roots d hidden root n = None
-id_outwards (suc f) p roots d hidden root n =
-    unless_hidden (id_in p roots d root n) (hidden || has_name p d root n)
-    (option_and_then (λ r. id_outwards f p roots d false r n) (enclosing p roots d root))
 
 seen_so : (p : Program) (roots : Roots) (d o : ℕ) (n : Units) → id_seen p roots d o n ≡ id_outwards (suc (length (unit_at p d).objects)) p roots d (has_name p d o n) (root_of p roots d o) n
 seen_so p roots d o n = refl

@@ -1,22 +1,16 @@
 -- The faults of aliases that end at nothing, row after row.
 use Rattle.std.specs.Prelude.{◌≡◌, ℕ, suc, List, [], ◌∷◌, ◌++◌, true, slice_get, Option, Some, None}
 use Rattle.std.specs.List.{flat_map}
-use Rattle.qml_base.specs.declared.numbers.Place.{Place}
-use Rattle.qml_base.specs.declared.load_cause.LoadCause.TheVariants as cause
-use Rattle.program_names.specs.Written.{WrittenMember, an_alias, OwnedMember}
+use Rattle.program_names.specs.Written.{OwnedMember}
 use Rattle.program_names.specs.Loaded.{Program, unit_at}
 use Rattle.program_names.specs.Components.{Roots}
-use Rattle.program_names.specs.PathMeanings.{PathEnd, at_nothing, end_of_alias}
 use Rattle.program_tables.specs.declared.names.UnitNames.{UnitNames}
 use Rattle.program_tables.specs.Stands.{is_there}
-use Rattle.load_faults.specs.Faults.{Faults, fault_at}
+use Rattle.load_faults.specs.Faults.{Faults}
+use Rattle.load_faults.specs.Aliases.{bad_end, bad_alias}
 use Rattle.path_ends.specs.declared.aliases.Alias.{Alias}
 use Rattle.path_ends.specs.declared.aliases.UnitEnds.{UnitEnds}
 use Rattle.path_ends.specs.Said.{known_end}
-
-abbrev pub bad_end : Place → PathEnd → Faults
-bad_end at at_nothing = fault_at at cause.BadAlias
-bad_end at _ = []
 
 abbrev pub bad_row : List UnitEnds → ℕ → ℕ → Option Alias → Faults
 bad_row known d row None = []
@@ -28,10 +22,6 @@ bad_rows known d row [] = []
 bad_rows known d row (a ∷ rest) = bad_row known d row a ++ bad_rows known d (suc row) rest
 
 -- ---- of a program
-
-abbrev pub bad_alias : Program → Roots → ℕ → ℕ → WrittenMember → Faults
-bad_alias p roots d o (an_alias q def n at target t) = bad_end t (end_of_alias p roots d o target)
-bad_alias p roots d o _ = []
 
 -- those of a document's members in the order of writing
 abbrev pub bad_written : Program → Roots → ℕ → Faults

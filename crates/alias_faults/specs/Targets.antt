@@ -7,8 +7,6 @@ use Rattle.qml_base.specs.declared.numbers.Place.{Place}
 use Rattle.qml_base.specs.declared.load_cause.LoadCause.TheVariants as cause
 use Rattle.qml_syntax.specs.Tree.{Units, name, expr}
 use Rattle.qml_types.specs.declared.kind.TypeNo.TheVariants as no
-use Rattle.qml_types.specs.declared.kind.TypeRef.{TypeRef}
-use Rattle.qml_types.specs.declared.kind.TypeRef.TheVariants.{Builtin, Document as OfDocument}
 use Rattle.program_names.specs.Written.{WrittenObject, WrittenValue, by_stmt}
 use Rattle.program_names.specs.Loaded.{Program, unit_at, type_of_object}
 use Rattle.program_names.specs.Layers.{is_type}
@@ -24,6 +22,7 @@ use Rattle.alias_tables.specs.Roots.{root_at}
 use Rattle.alias_tables.specs.Ids.{id_found}
 use Rattle.path_ends.specs.declared.aliases.UnitIds.{UnitIds}
 use Rattle.load_faults.specs.Faults.{Faults, fault_if, place_of_object, place_of_value}
+use Rattle.load_faults.specs.Aliases.{is_built_in}
 use Rattle.alias_faults.specs.declared.targets.TargetRow.{TargetRow}
 
 -- whether expressions see what a name means; they don't see the children of an Item by their name
@@ -86,10 +85,6 @@ name_alone _ = None
 
 abbrev target_row : ℕ → Place → Option Units → TargetRow
 target_row o at n = record { object = o; at = at; name = n }
-
-abbrev is_built_in : TypeRef → Bool
-is_built_in (Builtin t) = true
-is_built_in (OfDocument u) = false
 
 -- a row for what `target` is given, or for an object of the built-in type without it
 abbrev pub row_given : Program → ℕ → ℕ → Option WrittenValue → List TargetRow

@@ -3,6 +3,7 @@
 ghost use Rattle.std.specs.Prelude.{◌≡◌};
 ghost use Rattle.qml_base.specs.declared.load_cause.LoadCause.TheVariants.{BadAlias};
 ghost use Rattle.load_faults.specs.Faults.{first_from, fault_at};
+ghost use Rattle.load_faults.specs.Aliases.{bad_end};
 ghost use Rattle.path_ends.specs.Said.{end_of, known_end};
 ghost use Rattle.alias_faults.specs.BadAliases as s;
 
@@ -37,7 +38,7 @@ fn tell_row(known: &[UnitEnds], document: usize, row: usize, alias: &Option<Alia
 }
 
 fn tell_alias(known: &[UnitEnds], document: usize, row: usize, alias: &Alias, best: &mut Best)
-    ensures { best.new.fault ≡ first_from best.old.fault (s.bad_end alias.now.at (known_end known.now document row)) }
+    ensures { best.new.fault ≡ first_from best.old.fault (bad_end alias.now.at (known_end known.now document row)) }
 {
     match known_at(known, document, row) {
         Some(entry) => tell_end(&entry.end, alias.at, best),
@@ -46,7 +47,7 @@ fn tell_alias(known: &[UnitEnds], document: usize, row: usize, alias: &Alias, be
 }
 
 fn tell_end(end: &PathEnd, at: Place, best: &mut Best)
-    ensures { best.new.fault ≡ first_from best.old.fault (s.bad_end at (end_of end.now)) }
+    ensures { best.new.fault ≡ first_from best.old.fault (bad_end at (end_of end.now)) }
 {
     match end {
         PathEnd::Nothing => tell(at, best),

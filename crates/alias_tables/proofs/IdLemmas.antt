@@ -1,7 +1,7 @@
 -- Ids of components, row after row, are those of the program.
 use Rattle.std.proofs.Common.{◌≡◌, ◌∙◌, ap, sym, refl, subst, ℕ, zero, suc, ◌+◌, ◌<◌, ◌≤◌, arith, Bool, true, false, List, [], ◌∷◌, ◌++◌, length, map, get_or, set, take, drop, add-one, drop-cons, Option, Some, None}
 use Rattle.std.specs.Prelude.{◌||◌, ◌&&◌, nat_eq, if◌then◌else◌, slice_get}
-use Rattle.std.specs.Option.{option_or, unwrap_or}
+use Rattle.std.specs.Option.{option_or}
 use Rattle.std.specs.List.{filter}
 use Rattle.std.specs.Str.{bytes_eq}
 use Rattle.std.proofs.lemmas.Bool.Decides.{nat_tests}
@@ -9,9 +9,9 @@ use Rattle.std.proofs.lemmas.List.{map-append}
 use Rattle.qml_syntax.specs.Tree.{Units}
 use Rattle.qml_syntax.specs.Nodes.{Table}
 use Rattle.name_table.specs.Named.{under, put}
-use Rattle.program_names.specs.Written.{WrittenMember, an_id, OwnedMember}
+use Rattle.program_names.specs.Written.{OwnedMember}
 use Rattle.program_names.specs.Loaded.{Program, unit_at}
-use Rattle.program_names.specs.Components.{Roots, root_of, is_known, Id, id_in}
+use Rattle.program_names.specs.Components.{Roots, root_of, is_known, Id, id_in, with_id, ids_of_rows, stands_in, first_id}
 use Rattle.document_rows.specs.WholePaths.{path_at}
 use Rattle.document_members.specs.declared.member.Member.{Member}
 use Rattle.document_members.specs.declared.member.Member.TheVariants as m
@@ -20,6 +20,7 @@ use Rattle.program_tables.specs.declared.building.UnitRow.{UnitRow}
 use Rattle.program_tables.specs.Building.{is_group, is_inside}
 use Rattle.program_tables.specs.RowsSay.{RowsSay}
 use Rattle.program_tables.proofs.NameLemmas.{under_put, or_assoc, eq_either_way}
+use Rattle.program_tables.proofs.GroupLemmas.{is_filled, inside_alike, filled_by}
 use Rattle.alias_tables.specs.Roots.{root_at}
 use Rattle.alias_tables.specs.Ids.{Ids, no_ids, id_given, id_put, id_added, ids_added, id_found, KnowsRoots}
 
@@ -58,23 +59,8 @@ one_more_table roots i tables after h t a =
 
 -- ---- one component
 
-abbrev with_id : ℕ → WrittenMember → List Id → List Id
-with_id o (an_id word name at) rest = record { word = word; name = name; at = at; object = o } ∷ rest
-with_id o w rest = rest
-
-abbrev ids_of_rows : List OwnedMember → List Id
-ids_of_rows [] = []
-ids_of_rows (r ∷ rest) = with_id r.object r.member (ids_of_rows rest)
-
-abbrev stands_in : Program → Roots → ℕ → ℕ → Id → Bool
-stands_in p roots d root i = is_known p roots d i.object && nat_eq (root_of p roots d i.object) root
-
-abbrev first_of : List Id → Units → Option ℕ
-first_of [] name = None
-first_of (i ∷ rest) name = if bytes_eq i.name name then Some i.object else first_of rest name
-
 abbrev first_among : Program → Roots → ℕ → ℕ → Units → List Id → Option ℕ
-first_among p roots d root name ids = first_of (filter (stands_in p roots d root) ids) name
+first_among p roots d root name ids = first_id (filter (stands_in p roots d root) ids) name
 
 in_program : (p : Program) (roots : Roots) (d root : ℕ) (name : Units) → first_among p roots d root name (ids_of_rows (unit_at p d).rows) ≡ id_in p roots d root name
 in_program p roots d root name = refl
@@ -112,27 +98,6 @@ added_long : (tables : List Ids) (k o : ℕ) (n : Option Units) → length (put_
 added_long tables k o None = refl
 added_long tables k o (Some n) = put_long tables k n o
 
--- ---- groups
-
-abbrev is_filled : List Units → Bool
-is_filled [] = false
-is_filled (n ∷ ns) = true
-
-inside_alike : (paths : List (List Units)) (g : Option ℕ) → is_inside (map is_filled paths) g ≡ is_filled (path_at paths g)
-inside_alike paths None = refl
-inside_alike paths (Some k) = at paths k
-  where
-    at : (paths : List (List Units)) (k : ℕ) → unwrap_or (slice_get (map is_filled paths) k) false ≡ is_filled (unwrap_or (slice_get paths k) [])
-    at [] k = refl
-    at (x ∷ paths) zero = refl
-    at (x ∷ paths) (suc k) = at paths k
-
-filled_by : (before : List Units) (x : Member) → is_filled (before ++ added_by x) ≡ (is_filled before || is_group x)
-filled_by (n ∷ ns) x = refl
-filled_by [] (m.Group path) = refl
-filled_by [] (m.Id w n at) = refl
-filled_by [] _ = refl
-
 -- ---- one row
 
 abbrev one_id : Bool → ℕ → ℕ → ℕ → Option Units → Units → Option ℕ
@@ -146,7 +111,7 @@ by_given : (p : Program) (roots : Roots) (d c o : ℕ) (t : Table) (before : Lis
 by_given p roots d c o t [] first (m.Id w n at) name rest = chosen (is_known p roots d o && nat_eq (root_of p roots d o) c) (bytes_eq n name) refl
   where
     chosen : (s b : Bool) → bytes_eq n name ≡ b
-        → first_of (if s then record { word = w; name = n; at = at; object = o } ∷ filter (stands_in p roots d c) rest else filter (stands_in p roots d c) rest) name ≡
+        → first_id (if s then record { word = w; name = n; at = at; object = o } ∷ filter (stands_in p roots d c) rest else filter (stands_in p roots d c) rest) name ≡
         option_or (if s && b then Some o else None) (first_among p roots d c name rest)
     chosen false b e = refl
     chosen true true e = ap (λ k. if k then Some o else first_among p roots d c name rest) e

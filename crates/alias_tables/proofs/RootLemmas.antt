@@ -3,7 +3,7 @@ use Rattle.std.proofs.Common.{inl, inr, ◌≡◌, ◌∙◌, ap, sym, refl, sub
 use Rattle.std.specs.Prelude.{if◌then◌else◌, slice_get, ◌⊎◌}
 use Rattle.std.specs.Option.{unwrap_or}
 use Rattle.program_names.specs.Loaded.{Program, unit_at}
-use Rattle.program_names.specs.Components.{Roots, owner, root_of}
+use Rattle.program_names.specs.Components.{Roots, owner, root_of, around}
 use Rattle.alias_tables.specs.Roots.{begins_at, root_around, root_by, roots_after, begins}
 
 -- ---- the walk
@@ -16,10 +16,6 @@ goes_on known owners i d roots after all root h r a l =
     ap (roots_after known roots i) (sym (drop-cons owners i d h)) ∙ l
 
 -- ---- the definition, by the words that it is made of
-
-abbrev around : {A : Type 0} → A → (ℕ → A) → Option ℕ → A
-around last go_on None = last
-around last go_on (Some w) = go_on w
 
 abbrev within : ℕ → Program → Roots → ℕ → ℕ → ℕ
 within zero p roots d o = 0

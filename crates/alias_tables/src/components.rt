@@ -47,7 +47,8 @@ fn begins_at(begins: &[bool], object: usize) -> bool
     }
 }
 
-pub(crate) fn root_at(roots: &[usize], object: usize) -> usize
+/// The root of the component in which an object stands, where these are those of a document; 0 for one that isn't there.
+pub fn root_at(roots: &[usize], object: usize) -> usize
     ensures { result ≡ s.root_at roots.now object }
 {
     match roots.get(object) {

@@ -1,13 +1,12 @@
 //! Ids by components.
 
 ghost use Rattle.std.specs.Prelude.{◌≡◌, [], length, map, IfOk, OnOk};
-ghost use Rattle.program_tables.specs.Building.{is_group, is_inside};
 ghost use Rattle.alias_tables.specs.Ids as s;
 
 use crate::components::root_at;
 use document_members::Member;
 use name_table::NameTable;
-use program_tables::UnitRow;
+use program_tables::{UnitRow, is_group, is_inside};
 use qml_base::NoMemory;
 use qml_text::Text;
 use std::alloc::Global;
@@ -43,28 +42,6 @@ fn no_ids(alloc: Global, roots: &[usize]) -> Result<Vec<NameTable<usize>>, NoMem
         tables.push(NameTable::new(alloc))?;
     }
     Ok(tables)
-}
-
-/// Whether a row stands in a group, where `grouping` says of each row before it whether what is in it does.
-fn is_inside(grouping: &[bool], group: Option<usize>) -> bool
-    ensures { result ≡ is_inside grouping.now group }
-{
-    match group {
-        Some(row) => match grouping.get(row) {
-            Some(inside) => *inside,
-            None => false,
-        },
-        None => false,
-    }
-}
-
-fn is_group(member: &Member) -> bool
-    ensures { result ≡ is_group member.now }
-{
-    match member {
-        Member::Group { path: _ } => true,
-        _ => false,
-    }
 }
 
 /// Adds the id that a row gives, where it isn't in a group.

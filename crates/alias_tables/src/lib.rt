@@ -8,6 +8,6 @@ mod laws;
 #[cfg(test)]
 mod tests;
 
-pub use components::component_roots;
+pub use components::{component_roots, root_at};
 pub use ids::{component_ids, object_of_id};
 pub use laws::{ids_are_those_of_the_program, roots_are_those_of_the_program};

@@ -18,12 +18,12 @@ use Rattle.qml_types.specs.declared.kind.PropKind.{PropKind}
 use Rattle.qml_types.specs.declared.kind.Access.{Access}
 use Rattle.qml_types.specs.declared.members.DefaultMember.TheVariants as member
 use Rattle.qml_types.specs.Table.{TypeCell, cells_of}
-use Rattle.program_names.specs.Names.{handler_of, raised}
-use Rattle.program_names.specs.Written.{WrittenObject, WrittenMember, an_alias, as_child, as_value}
-use Rattle.program_names.specs.Loaded.{Unit as AUnit, Program, object_at}
-use Rattle.program_names.specs.Layers.{NameMeaning, a_cell, a_signal_of, an_alias_of, the_children, Named, names, is_type, meaning, handled, DefaultProperty, no_default, to_property, to_component}
-use Rattle.program_names.specs.Components.{IsRoot, Roots, root_of, id_in}
-use Rattle.program_names.specs.PathMeanings.{Way, SeenObject, way_to, here, PathEnd, at_cell, at_object, at_nothing, in_circle, end_of, PathMeaning, a_property_of, an_object_of, a_handler, children_of, no_meaning, without_target, meaning_of_path}
+use Rattle.program_names.specs.Names.{raised}
+use Rattle.program_names.specs.Written.{as_child, as_value}
+use Rattle.program_names.specs.Loaded.{Program, object_at}
+use Rattle.program_names.specs.Layers.{NameMeaning, a_cell, Named, names, is_type, meaning, DefaultProperty, no_default, to_property, to_component, parameters_of, joined_names, handled_in}
+use Rattle.program_names.specs.Components.{IsRoot, Roots}
+use Rattle.program_names.specs.PathMeanings.{SeenObject, way_to, here, at_cell, at_object, end_of, PathMeaning, a_property_of, an_object_of, a_handler, children_of, no_meaning, without_target, meaning_of_path, end_by_meaning, end_within, aliases_of_unit, by_end, is_cell, is_children, or_handler, meaning_behind}
 use Rattle.program_names.specs.ComponentRoots.{is_change, meaning_given, root_as}
 use Rattle.document_rows.specs.declared.rows.ObjectRow.{ObjectRow}
 use Rattle.document_members.specs.declared.member.Member.{Member}
@@ -74,54 +74,8 @@ name_nowhere f t n r text e i g = g ∙ ap (λ x. unwrap_or (option_map (λ (cel
 
 -- ---- the definition, by the words that it is made of
 
-abbrev Follow : Type 0
-Follow = SeenObject → List Units → PathEnd
-
-abbrev cell_end : SeenObject → ℕ → PropKind → Access → List Units → PathEnd
-cell_end s place k a [] = at_cell (way_to s) place k a
-cell_end s place k a (n ∷ rest) = at_nothing
-
-abbrev go_on : Follow → PathEnd → List Units → PathEnd
-go_on follow x [] = x
-go_on follow (at_object t) (m ∷ more) = follow t (m ∷ more)
-go_on follow (at_cell w c k a) (m ∷ more) = at_nothing
-go_on follow at_nothing (m ∷ more) = at_nothing
-go_on follow in_circle (m ∷ more) = in_circle
-
-abbrev end_from_id : Follow → Option Way → ℕ → Option ℕ → List Units → PathEnd
-end_from_id follow holder d None more = at_nothing
-end_from_id follow holder d (Some o) more = follow (record { holder = holder; document = d; object = o }) more
-
-abbrev end_of_target : Follow → Program → Roots → Option Way → ℕ → ℕ → List Units → PathEnd
-end_of_target follow p roots holder d o [] = at_nothing
-end_of_target follow p roots holder d o (i ∷ more) = end_from_id follow holder d (id_in p roots d (root_of p roots d o) i) more
-
-abbrev holder_in : SeenObject → ℕ → Option Way
-holder_in s d = if nat_eq d s.document then s.holder else Some (way_to s)
-
-abbrev end_by_meaning : Follow → Program → Roots → SeenObject → List Units → Option NameMeaning → PathEnd
-end_by_meaning follow p roots s rest (Some (a_cell place k a)) = cell_end s place k a rest
-end_by_meaning follow p roots s rest (Some (an_alias_of d o target)) = go_on follow (end_of_target follow p roots (holder_in s d) d o target) rest
-end_by_meaning follow p roots s rest _ = at_nothing
-
-abbrev within : ℕ → Program → Roots → SeenObject → List Units → PathEnd
-within zero p roots s path = in_circle
-within (suc f) p roots s [] = at_object s
-within (suc f) p roots s (n ∷ rest) = end_by_meaning (λ t path. within f p roots t path) p roots s rest (meaning p s.document s.object n)
-
-abbrev count_aliases : List WrittenMember → ℕ
-count_aliases [] = 0
-count_aliases (an_alias q def n at t u ∷ rest) = suc (count_aliases rest)
-count_aliases (m ∷ rest) = count_aliases rest
-
-abbrev aliases_of_unit : AUnit → ℕ
-aliases_of_unit u = sum_by (λ (w : WrittenObject). count_aliases w.members) u.objects
-
-abbrev steps_enough : Program → List Units → ℕ
-steps_enough p path = 4 + length path + 4 * sum_by aliases_of_unit p
-
 end_at_once : (p : Program) (roots : Roots) (s : SeenObject) → end_of p roots s [] ≡ at_object s
-end_at_once p roots s = ap (λ k. within k p roots s []) (some_steps (sum_by aliases_of_unit p))
+end_at_once p roots s = ap (λ k. end_within k p roots s []) (some_steps (sum_by aliases_of_unit p))
   where
     some_steps : (n : ℕ) → 4 + 0 + 4 * n ≡ suc (3 + 4 * n)
     some_steps n = omega arith
@@ -129,60 +83,16 @@ end_at_once p roots s = ap (λ k. within k p roots s []) (some_steps (sum_by ali
 end_at_cell : (p : Program) (roots : Roots) (s : SeenObject) (n : Units) (place : ℕ) (k : PropKind) (a : Access) → meaning p s.document s.object n ≡ Some (a_cell place k a)
     → end_of p roots s (n ∷ []) ≡ at_cell (way_to s) place k a
 end_at_cell p roots s n place k a e =
-    ap (λ f. within f p roots s (n ∷ [])) (some_steps (sum_by aliases_of_unit p)) ∙
-    ap (end_by_meaning (λ t path. within (4 + 4 * sum_by aliases_of_unit p) p roots t path) p roots s []) e
+    ap (λ f. end_within f p roots s (n ∷ [])) (some_steps (sum_by aliases_of_unit p)) ∙
+    ap (end_by_meaning (λ t path. end_within (4 + 4 * sum_by aliases_of_unit p) p roots t path) p roots s []) e
   where
     some_steps : (n : ℕ) → 4 + 1 + 4 * n ≡ suc (4 + 4 * n)
     some_steps n = omega arith
-
-abbrev by_end : Bool → PathEnd → PathMeaning
-by_end own (at_cell w place k a) = a_property_of w place k a own
-by_end own (at_object s) = an_object_of s
-by_end own at_nothing = no_meaning
-by_end own in_circle = no_meaning
-
-abbrev is_cell : Option NameMeaning → Bool
-is_cell (Some (a_cell place k a)) = true
-is_cell _ = false
-
-abbrev is_children : Option NameMeaning → Bool
-is_children (Some the_children) = true
-is_children _ = false
-
-abbrev or_handler : Bool → Option (List Units) → PathMeaning → PathMeaning
-or_handler own (Some parameters) other = if own then a_handler parameters else no_meaning
-or_handler own None other = other
-
-abbrev meaning_at : Program → Roots → SeenObject → Bool → Units → PathMeaning
-meaning_at p roots s own n =
-    let found = meaning p s.document s.object n in
-    or_handler own (handled p s.document s.object n)
-    (if own && is_children found then children_of (way_to s) else by_end (own && is_cell found) (end_of p roots s (n ∷ [])))
-
-abbrev meaning_behind : Program → Roots → Bool → PathEnd → Units → PathMeaning
-meaning_behind p roots own (at_object s) n = meaning_at p roots s own n
-meaning_behind p roots own _ n = no_meaning
 
 path_so : (p : Program) (roots : Roots) (s : SeenObject) (n : Units) → meaning_of_path p roots s (n ∷ []) ≡ meaning_behind p roots true (end_of p roots s []) n
 path_so p roots s n = refl
 
 -- ---- names that are no handlers'
-
-abbrev parameters_of : NameMeaning → Option (List Units)
-parameters_of (a_signal_of names) = Some names
-parameters_of _ = None
-
-abbrev handled_by : Units → Named → Option (List Units)
-handled_by handler n = if bytes_eq (handler_of n.name) handler then parameters_of n.what else None
-
-abbrev joined_names : Option (List Units) → Option (List Units) → Option (List Units)
-joined_names None b = b
-joined_names (Some a) None = Some a
-joined_names (Some a) (Some b) = Some (a ++ b)
-
-abbrev handled_in : Units → List Named → Option (List Units)
-handled_in handler [] = None
-handled_in handler (n ∷ rest) = joined_names (handled_by handler n) (handled_in handler rest)
 
 and_none : (a : Bool) → (a && false) ≡ false
 and_none true = refl

@@ -3,14 +3,14 @@ use Rattle.std.proofs.Common.{◌≡◌, ◌∙◌, ap, sym, refl, subst, ℕ, z
 use Rattle.std.specs.Prelude.{slice_get}
 use Rattle.std.specs.Option.{unwrap_or}
 use Rattle.std.proofs.lemmas.Bool.{false≢true}
-use Rattle.qml_syntax.specs.Tree.{Units, TypeName, function, document, Object, object, Members, no_members, a_member, Member as AMember, id, property, bare, alias, signal, method, given, group, child, Value, value_object, value_list, value_stmt, Objects, last_object, an_object}
+use Rattle.qml_syntax.specs.Tree.{Units, TypeName, function, document, object, Member as AMember, id, property, bare, alias, signal, method, given, group, child}
 use Rattle.qml_syntax.specs.Nodes.{of_member, Table}
-use Rattle.program_names.specs.Written.{WrittenObject, WrittenMember, a_property, a_value, a_child, WrittenAs, as_root, as_child, as_value, count_object, count_member, member_from}
+use Rattle.program_names.specs.Written.{WrittenObject, WrittenMember, a_property, a_value, a_child, WrittenAs, as_root, as_child, as_value, member_from}
 use Rattle.program_names.specs.Reading.{File, is_document}
 use Rattle.program_names.specs.Loaded.{Program, Unit as AUnit, unit_of, unit_at, object_at, no_object}
 use Rattle.document_rows.specs.declared.rows.ObjectRow.{ObjectRow}
 use Rattle.document_rows.specs.declared.rows.MemberRow.{MemberRow}
-use Rattle.document_rows.specs.Entries.{MemberEntry, rows_in_object, rows_in_member, members_with, members_of, members_inside, members_of_value, members_of_list, member_entry, object_entry, AreRows}
+use Rattle.document_rows.specs.Entries.{MemberEntry, members_with, member_entry, object_entry, AreRows}
 use Rattle.document_rows.specs.WholePaths.{names_added, path_at}
 use Rattle.document_rows.specs.WrittenObjects.{Placed, placed_behind, role_in, role_of_entry, role_by, typed_by, typed}
 use Rattle.document_rows.proofs.RoleLemmas.{objects_by_rows}
@@ -21,50 +21,13 @@ use Rattle.program_tables.specs.declared.names.UnitNames.{UnitNames}
 use Rattle.program_tables.specs.declared.building.UnitRow.{UnitRow}
 use Rattle.program_tables.specs.RowsSay.{row_of, member_of_row}
 use Rattle.program_tables.specs.Stands.{is_there}
+use Rattle.program_tables.proofs.TreeLemmas.{AreMembers, in_object}
 use Rattle.component_roots.specs.Deciding.{SaysRole, SaysRow, ObjectSays, ObjectsSay}
 
 none_some : {A : Type 0} {X : Type 0} (x : A) → Path (Option A) None (Some x) → X
 none_some x e = absurd (false≢true (ap is_some e))
 
 -- ---- each entry is a member's
-
-abbrev AreMembers : List MemberEntry → Type 0
-AreMembers [] = Unit {0}
-AreMembers (e ∷ es) = ((x : AMember) × (e.part ≡ of_member x false)) × AreMembers es
-
-both : (es fs : List MemberEntry) → AreMembers es → AreMembers fs → AreMembers (es ++ fs)
-both [] fs h g = g
-both (e ∷ es) fs h g = (h.0, both es fs h.1 g)
-
-mutual
-  in_object : (n k : ℕ) (o : Object) → AreMembers (members_with n k o)
-  in_object n k (object t ms) = in_members n None (suc n) k ms
-
-  in_members : (o : ℕ) (g : Option ℕ) (n k : ℕ) (ms : Members) → AreMembers (members_of o g n k ms)
-  in_members o g n k no_members = tt
-  in_members o g n k (a_member x b ms) =
-      ((x, refl), both (members_inside o n k x) (members_of o g (n + count_member x) (suc k + rows_in_member x) ms) (inside o n k x) (in_members o g (n + count_member x) (suc k + rows_in_member x) ms))
-
-  inside : (o n k : ℕ) (x : AMember) → AreMembers (members_inside o n k x)
-  inside o n k (id p x q c) = tt
-  inside o n k (property p a y x q v) = in_value n (suc k) v
-  inside o n k (bare p a y x q c) = tt
-  inside o n k (alias p d x q t r ns c) = tt
-  inside o n k (signal p x q ps c) = tt
-  inside o n k (method f) = tt
-  inside o n k (given x p ns v) = in_value n (suc k) v
-  inside o n k (group x p ns ms) = in_members o (Some k) n (suc k) ms
-  inside o n k (child c) = in_object n (suc k) c
-
-  in_value : (n k : ℕ) (v : Value) → AreMembers (members_of_value n k v)
-  in_value n k (value_object c) = in_object n k c
-  in_value n k (value_list p os) = in_list n k os
-  in_value n k (value_stmt s) = tt
-
-  in_list : (n k : ℕ) (os : Objects) → AreMembers (members_of_list n k os)
-  in_list n k (last_object c) = in_object n k c
-  in_list n k (an_object c os) =
-      both (members_with n k c) (members_of_list (n + count_object c) (k + rows_in_object c) os) (in_object n k c) (in_list (n + count_object c) (k + rows_in_object c) os)
 
 member_at : (es : List MemberEntry) → AreMembers es → (k : ℕ) (e : MemberEntry) → slice_get es k ≡ Some e → (x : AMember) × (e.part ≡ of_member x false)
 member_at [] h k e i = none_some e i

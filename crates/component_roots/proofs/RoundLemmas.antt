@@ -6,68 +6,11 @@ use Rattle.std.proofs.lemmas.Bool.{false≢true}
 use Rattle.std.proofs.lemmas.List.{length-append}
 use Rattle.program_names.specs.Written.{WrittenObject}
 use Rattle.program_names.specs.Loaded.{Unit as AUnit, Program, unit_at, object_at, no_object, no_unit}
-use Rattle.program_names.specs.Components.{IsRoot, Roots, is_root_at, owner, is_known}
-use Rattle.program_names.specs.ComponentRoots.{root_as, same_root, roots_of}
+use Rattle.program_names.specs.Components.{IsRoot, Roots, is_root_at, owner, is_known, around, known_within}
+use Rattle.program_names.specs.ComponentRoots.{root_as, same_root, roots_of, owner_known, next_root, next_roots, next_round, same_row, same_roots, rounds, unknown, nothing_known, settled, rounds_enough}
 use Rattle.component_roots.specs.Decided.{OwnersAreLower, AreDecided}
 
 -- ---- the definition, by the words that it is made of
-
-abbrev around : {A : Type 0} → A → (ℕ → A) → Option ℕ → A
-around last go_on None = last
-around last go_on (Some w) = go_on w
-
-abbrev known_within : ℕ → Program → Roots → ℕ → ℕ → Bool
-known_within zero p roots d o = true
-known_within (suc n) p roots d o =
-    elim (is_some (is_root_at roots d o)) [
-      | false ↦ false
-      | true ↦ around true (λ w. known_within n p roots d w) (owner p d o)
-    ]
-
-abbrev owner_known : Program → Roots → ℕ → Option ℕ → Bool
-owner_known p roots d None = true
-owner_known p roots d (Some w) = is_known p roots d w
-
-abbrev next_root : Program → Roots → ℕ → ℕ → WrittenObject → IsRoot → IsRoot
-next_root p roots d o w (Some b) = Some b
-next_root p roots d o w None = elim (owner_known p roots d (owner p d o)) [ true ↦ root_as p roots d o w.role | false ↦ None ]
-
-abbrev next_roots : Program → Roots → ℕ → ℕ → List WrittenObject → List IsRoot
-next_roots p roots d o [] = []
-next_roots p roots d o (w ∷ rest) = next_root p roots d o w (is_root_at roots d o) ∷ next_roots p roots d (suc o) rest
-
-abbrev next_round : Program → Roots → ℕ → List AUnit → Roots
-next_round p roots d [] = []
-next_round p roots d (u ∷ rest) = next_roots p roots d 0 u.objects ∷ next_round p roots (suc d) rest
-
-abbrev same_row : List IsRoot → List IsRoot → Bool
-same_row [] [] = true
-same_row (a ∷ more) (b ∷ others) = same_root a b && same_row more others
-same_row _ _ = false
-
-abbrev same_roots : Roots → Roots → Bool
-same_roots [] [] = true
-same_roots (a ∷ more) (b ∷ others) = same_row a b && same_roots more others
-same_roots _ _ = false
-
-abbrev rounds : ℕ → Program → Roots → Roots
-rounds zero p roots = roots
-rounds (suc n) p roots =
-    let next = next_round p roots 0 p in
-    elim (same_roots roots next) [ true ↦ roots | false ↦ rounds n p next ]
-
-abbrev unknown : WrittenObject → IsRoot
-unknown w = None
-
-abbrev nothing_known : Program → Roots
-nothing_known p = map (λ (u : AUnit). map unknown u.objects) p
-
-abbrev settled : IsRoot → IsRoot
-settled None = Some false
-settled (Some b) = Some b
-
-abbrev rounds_enough : Program → ℕ
-rounds_enough p = suc (length (flat_map (λ (u : AUnit). u.objects) p))
 
 roots_so : (p : Program) → roots_of p ≡ map (λ row. map settled row) (rounds (rounds_enough p) p (nothing_known p))
 roots_so p = refl

@@ -13,7 +13,7 @@ ghost use Rattle.program_names.specs.Reading.{File, Source, is_document};
 ghost use Rattle.qml_syntax.specs.Tree.{document};
 ghost use Rattle.qml_syntax.specs.Nodes.{Table};
 ghost use Rattle.document_rows.specs.Entries.{AreRows};
-ghost use Rattle.document_members.specs.Members.{ReadsAll};
+ghost use Rattle.document_members.specs.Members.{ReadsMembers};
 ghost use Rattle.program_tables.specs.RowsSay.{row_of, member_of_row};
 ghost use Rattle.program_names.specs.Loaded.{Program, unit_at, unit_of};
 ghost use Rattle.program_names.specs.Components.{is_root_at, is_known};
@@ -50,7 +50,7 @@ pub fn rows_of_a_tree_say_roles()
     ensures { (p : Program) (names : List n.UnitNames) (d : ℕ) (file : File) (t : Table) (objects : List o.ObjectRow) (rows : List r.UnitRow) →
         (all : AreRows t objects (map row_of rows)) →
         unit_at p d ≡ unit_of file (is_document (document all.imports all.root)) →
-        ReadsAll t (map row_of rows) (map member_of_row rows) →
+        ReadsMembers t (map row_of rows) (map member_of_row rows) →
         ((o : ℕ) → o < length objects → is_there names d o ≡ true) →
         ((k : ℕ) (x : r.UnitRow) → slice_get rows k ≡ Some x → is_there names d x.row.object ≡ true) →
         ObjectsSay p names d rows objects }

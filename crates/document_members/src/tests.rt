@@ -1,9 +1,10 @@
-//! A member of a small document, with a tree that is built by hand.
+//! The rows of a small document and a member of it, with a tree that is built by hand.
 
 ghost use Rattle.std.specs.Prelude.{IfOk};
 ghost use Rattle.document_rows.specs.Entries.{IsDocument};
 
 use crate::{Member, read_member};
+use document_rows::{MemberRow, ObjectRow, document_rows};
 use qml_base::{NoMemory, Place};
 use qml_syntax::{Node, Nodes, Tree};
 use qml_text::Text;
@@ -42,5 +43,28 @@ fn reads_the_value_of_a_name(rt: HostRuntime) -> Result<(), Fail> {
         _ => false,
     };
     assert!(rt; told);
+    Ok(())
+}
+
+#[test]
+fn rows_of_a_small_document(rt: HostRuntime) -> Result<(), Fail> {
+    let alloc = rt.alloc();
+    let name = Text::from_utf8(alloc, b"a")?;
+    let nodes = small(alloc, Text::new(), name, Text::new())?;
+    let tree = Tree::new(alloc, nodes)?;
+    let rows = document_rows(alloc, &tree)?;
+    let root = ObjectRow { node: 8, row: None };
+    let inner = ObjectRow {
+        node: 6,
+        row: Some(0),
+    };
+    assert_eq!(rt; rows.objects.as_slice(), [root, inner].as_slice());
+    let member = MemberRow {
+        node: 7,
+        object: 0,
+        group: None,
+        first: 1,
+    };
+    assert_eq!(rt; rows.members.as_slice(), [member].as_slice());
     Ok(())
 }

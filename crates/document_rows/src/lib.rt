@@ -6,8 +6,6 @@
 mod kind;
 mod laws;
 mod rows;
-#[cfg(test)]
-mod tests;
 mod walk;
 
 pub use laws::{

@@ -1,9 +1,8 @@
-pub mod BasicLemmas
 pub mod GroupLemmas
+pub mod BesideLemmas
 pub mod MakingLemmas
 mod KindLemmas
 mod ObjectLemmas
-mod SayLemmas
 mod BaseLemmas
 pub mod TableLemmas
 pub mod ProgramLemmas

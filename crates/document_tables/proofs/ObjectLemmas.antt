@@ -1,20 +1,15 @@
--- The entries of objects and of members are objects and members.
-use Rattle.std.proofs.Common.{◌≡◌, ◌∙◌, ap, sym, refl, ℕ, zero, suc, ◌+◌, false, List, [], ◌∷◌, ◌++◌, Option, Some, None, is_some}
+-- The entries of objects are objects.
+use Rattle.std.proofs.Common.{◌≡◌, ◌∙◌, ap, sym, refl, ℕ, zero, suc, ◌+◌, false, List, [], ◌∷◌, ◌++◌, Option, Some, is_some}
 use Rattle.std.specs.Prelude.{slice_get}
 use Rattle.std.specs.Option.{unwrap_or}
 use Rattle.std.proofs.lemmas.Bool.{false≢true}
 use Rattle.qml_syntax.specs.Tree.{TypeName, Object, object, Members, no_members, a_member, Member as AMember, id, property, bare, alias, signal, method, given, group, child, Value, value_object, value_list, value_stmt, Objects, last_object, an_object}
-use Rattle.qml_syntax.specs.Nodes.{of_member, of_object}
-use Rattle.program_names.specs.Written.{count_object, count_member}
-use Rattle.document_rows.specs.Entries.{ObjectEntry, MemberEntry, rows_in_object, rows_in_member, objects_with, objects_of_members, objects_of_member, objects_of_value, objects_of_list, members_with, members_of, members_inside, members_of_value, members_of_list}
+use Rattle.qml_syntax.specs.Nodes.{of_object}
+use Rattle.document_rows.specs.Entries.{ObjectEntry, rows_in_object, rows_in_member, objects_with, objects_of_members, objects_of_member, objects_of_value, objects_of_list}
 
 abbrev pub AreObjects : List ObjectEntry → Type 0
 AreObjects [] = Unit {0}
 AreObjects (e ∷ es) = ((x : TypeName) × (ms : Members) × (e.part ≡ of_object (object x ms))) × AreObjects es
-
-abbrev pub AreMembers : List MemberEntry → Type 0
-AreMembers [] = Unit {0}
-AreMembers (e ∷ es) = ((x : AMember) × (e.part ≡ of_member x false)) × AreMembers es
 
 -- ---- objects
 
@@ -57,39 +52,3 @@ pub object_there : (es : List ObjectEntry) → AreObjects es → (o : ℕ) (e : 
 object_there [] h o e g = absurd (false≢true (ap is_some g))
 object_there (y ∷ es) h zero e g = (h.0.0, h.0.1, sym (ap (λ (z : Option ObjectEntry). (unwrap_or z y).part) g) ∙ h.0.2)
 object_there (y ∷ es) h (suc o) e g = object_there es h.1 o e g
-
--- ---- members
-
-both : (es fs : List MemberEntry) → AreMembers es → AreMembers fs → AreMembers (es ++ fs)
-both [] fs h g = g
-both (e ∷ es) fs h g = (h.0, both es fs h.1 g)
-
-mutual
-  pub in_object : (n k : ℕ) (o : Object) → AreMembers (members_with n k o)
-  in_object n k (object t ms) = in_members n None (suc n) k ms
-
-  in_members : (o : ℕ) (g : Option ℕ) (n k : ℕ) (ms : Members) → AreMembers (members_of o g n k ms)
-  in_members o g n k no_members = tt
-  in_members o g n k (a_member x b ms) =
-      ((x, refl), both (members_inside o n k x) (members_of o g (n + count_member x) (suc k + rows_in_member x) ms) (inside o n k x) (in_members o g (n + count_member x) (suc k + rows_in_member x) ms))
-
-  inside : (o n k : ℕ) (x : AMember) → AreMembers (members_inside o n k x)
-  inside o n k (id p x q c) = tt
-  inside o n k (property p a y x q v) = in_value n (suc k) v
-  inside o n k (bare p a y x q c) = tt
-  inside o n k (alias p d x q t r ns c) = tt
-  inside o n k (signal p x q ps c) = tt
-  inside o n k (method f) = tt
-  inside o n k (given x p ns v) = in_value n (suc k) v
-  inside o n k (group x p ns ms) = in_members o (Some k) n (suc k) ms
-  inside o n k (child c) = in_object n (suc k) c
-
-  in_value : (n k : ℕ) (v : Value) → AreMembers (members_of_value n k v)
-  in_value n k (value_object c) = in_object n k c
-  in_value n k (value_list p os) = in_list n k os
-  in_value n k (value_stmt s) = tt
-
-  in_list : (n k : ℕ) (os : Objects) → AreMembers (members_of_list n k os)
-  in_list n k (last_object c) = in_object n k c
-  in_list n k (an_object c os) =
-      both (members_with n k c) (members_of_list (n + count_object c) (k + rows_in_object c) os) (in_object n k c) (in_list (n + count_object c) (k + rows_in_object c) os)

@@ -31,6 +31,7 @@ use Rattle.program_tables.specs.declared.names.ObjectNames.{ObjectNames}
 use Rattle.program_tables.specs.declared.names.UnitNames.{UnitNames}
 use Rattle.program_tables.specs.Building.{nothing_declared, rows_added}
 use Rattle.program_tables.specs.RowsSay.{RowsSay, row_of as own_row, member_of_row}
+use Rattle.program_tables.proofs.TreeLemmas.{AreMembers, in_object, row_after_row, members_there}
 use Rattle.program_types.specs.Numbers.{files_in}
 use Rattle.document_tables.specs.Finding.{or_object, object_type, nameless_type}
 use Rattle.program_types.specs.Numbers.{type_in}
@@ -40,8 +41,6 @@ use Rattle.document_tables.specs.declared.document.UnitTable.{UnitTable}
 use Rattle.document_tables.specs.Tables.{Tells, TableOf, tree_in, is_nothing}
 use Rattle.document_tables.proofs.MakingLemmas.{rows_made, rows_read, kinds_found}
 use Rattle.document_tables.proofs.KindLemmas.{here_in, imports_in, kinds_said, no_name}
-use Rattle.document_tables.proofs.ObjectLemmas.{AreMembers, in_object}
-use Rattle.document_tables.proofs.SayLemmas.{row_after_row, members_there}
 use Rattle.document_tables.proofs.BaseLemmas.{length_map, bases_told, count_of_objects, bases_in, bases_kept}
 
 positive : (n : ℕ) → 0 < suc n

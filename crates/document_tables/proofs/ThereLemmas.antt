@@ -1,44 +1,18 @@
 -- The rows of a document: which stand in groups, and that their objects are there.
-use Rattle.std.proofs.Common.{◌≡◌, ◌∙◌, ap, sym, refl, arith, ℕ, zero, suc, ◌<◌, ◌≤◌, Bool, true, false, if◌then◌else◌, nat_eq, nat_lt, List, [], ◌∷◌, ◌++◌, length, map, Option, Some, None, is_some}
-use Rattle.std.specs.Prelude.{slice_get, ◌||◌}
+use Rattle.std.proofs.Common.{◌≡◌, ◌∙◌, ap, sym, refl, arith, ℕ, zero, suc, ◌<◌, ◌≤◌, Bool, true, false, if◌then◌else◌, nat_eq, nat_lt, List, [], ◌∷◌, ◌++◌, length, Some, is_some}
+use Rattle.std.specs.Prelude.{slice_get}
 use Rattle.std.specs.Option.{unwrap_or, option_and_then}
 use Rattle.std.proofs.lemmas.Bool.{false≢true}
 use Rattle.std.proofs.lemmas.Bool.Decides.{nat_tests}
-use Rattle.qml_syntax.specs.Tree.{Units}
 use Rattle.qml_syntax.specs.Nodes.{Table}
 use Rattle.program_names.specs.Written.{WrittenObject, WrittenMember, OwnedMember}
 use Rattle.program_names.specs.Loaded.{Program, unit_at, no_object}
-use Rattle.document_rows.specs.WholePaths.{path_at}
 use Rattle.document_rows.specs.WrittenObjects.{kept, members_of_object}
-use Rattle.document_members.specs.declared.member.Member.{Member}
 use Rattle.document_members.specs.declared.member.Member.TheVariants as m
-use Rattle.document_members.specs.Members.{added_by}
 use Rattle.program_tables.specs.declared.building.UnitRow.{UnitRow}
 use Rattle.program_tables.specs.declared.names.UnitNames.{UnitNames}
-use Rattle.program_tables.specs.Building.{is_group, is_inside}
 use Rattle.program_tables.specs.Stands.{is_there}
 use Rattle.document_tables.specs.Tables.{Tells}
-
--- ---- groups
-
-abbrev pub is_filled : List Units → Bool
-is_filled [] = false
-is_filled (n ∷ ns) = true
-
-pub inside_alike : (paths : List (List Units)) (g : Option ℕ) → is_inside (map is_filled paths) g ≡ is_filled (path_at paths g)
-inside_alike paths None = refl
-inside_alike paths (Some k) = at paths k
-  where
-    at : (paths : List (List Units)) (k : ℕ) → unwrap_or (slice_get (map is_filled paths) k) false ≡ is_filled (unwrap_or (slice_get paths k) [])
-    at [] k = refl
-    at (x ∷ paths) zero = refl
-    at (x ∷ paths) (suc k) = at paths k
-
-pub filled_by : (before : List Units) (x : Member) → is_filled (before ++ added_by x) ≡ (is_filled before || is_group x)
-filled_by (n ∷ ns) x = refl
-filled_by [] (m.Group path) = refl
-filled_by [] (m.Id w n at) = refl
-filled_by [] _ = refl
 
 abbrev pub AllThere : List UnitNames → ℕ → List OwnedMember → Type 0
 AllThere us d [] = Unit {0}

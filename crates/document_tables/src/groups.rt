@@ -1,11 +1,10 @@
 //! Which members stand in groups.
 
-ghost use Rattle.std.specs.Prelude.{◌≡◌, [], ◌||◌, IfOk};
-ghost use Rattle.program_tables.specs.Building as s;
+ghost use Rattle.std.specs.Option.{unwrap_or};
+ghost use Rattle.std.specs.Prelude.{◌≡◌, [], ◌||◌, IfOk, slice_get, false};
 ghost use Rattle.document_tables.specs.Groups.{insides as insides_of};
 
-use document_members::Member;
-use program_tables::UnitRow;
+use program_tables::{UnitRow, is_group, is_inside};
 use qml_base::NoMemory;
 use std::alloc::Global;
 
@@ -24,24 +23,12 @@ pub(crate) fn insides(alloc: Global, rows: &[UnitRow]) -> Result<Vec<bool>, NoMe
     Ok(insides)
 }
 
-/// Whether a row stands in a group, where `grouping` says of each row before it whether what is in it does.
-fn is_inside(grouping: &[bool], group: Option<usize>) -> bool
-    ensures { result ≡ s.is_inside grouping.now group }
+/// Whether the row of a number stands in a group; one that isn't there doesn't.
+pub fn in_group(inside: &[bool], number: usize) -> bool
+    ensures { result ≡ unwrap_or (slice_get inside.now number) false }
 {
-    match group {
-        Some(row) => match grouping.get(row) {
-            Some(inside) => *inside,
-            None => false,
-        },
+    match inside.get(number) {
+        Some(inside) => *inside,
         None => false,
-    }
-}
-
-fn is_group(member: &Member) -> bool
-    ensures { result ≡ s.is_group member.now }
-{
-    match member {
-        Member::Group { path: _ } => true,
-        _ => false,
     }
 }

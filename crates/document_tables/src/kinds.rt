@@ -38,7 +38,6 @@ fn list_or_var(found: Option<TypeRef>) -> PropKind
 }
 
 /// The kind of a name that is no type.
-#[tactic(auto, using(crate::proofs::BasicLemmas::no_basic_kind))]
 fn basic_kind_of(alloc: Global, name: &Text) -> Result<Option<PropKind>, NoMemory>
     ensures { IfOk result (λ kind. kind ≡ basic name.now) }
 {

@@ -11,4 +11,5 @@ mod rows;
 mod types;
 
 pub use document::{UnitTable, document_table, empty_table, file_table};
-pub use program::{DocumentTable, ProgramTables, tables_of_program};
+pub use groups::in_group;
+pub use program::{DocumentTable, ProgramTables, table_at, tables_of_program};

@@ -1,6 +1,6 @@
 //! The tables of a program.
 
-ghost use Rattle.std.specs.Prelude.{◌≡◌, ◌++◌, ◌∷◌, [], IfOk, OnOk};
+ghost use Rattle.std.specs.Prelude.{◌≡◌, ◌++◌, ◌∷◌, [], option_copied, slice_get, IfOk, OnOk};
 ghost use Rattle.program_names.specs.Reading.{Sources};
 ghost use Rattle.program_names.specs.Loaded.{program_of};
 ghost use Rattle.type_search.specs.Causes.{Causes, Keeps};
@@ -118,6 +118,13 @@ fn file_tables<F: Files>(
         }
     }
     Ok((units, documents))
+}
+
+/// The table of the document of a number, if it is there.
+pub fn table_at(documents: &[DocumentTable], document: usize) -> Option<&DocumentTable>
+    ensures { option_copied result ≡ slice_get documents.now document }
+{
+    documents.get(document)
 }
 
 /// The tables of a program whose files were read, each made once, in reading order. A file that isn't known is read. Failed comes

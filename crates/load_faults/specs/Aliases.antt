@@ -19,11 +19,11 @@ use Rattle.load_faults.specs.Faults.{Faults, fault_at, fault_if, each_object, ea
 
 -- ---- BadAlias: an alias names no id or property
 
-abbrev bad_end : Place → PathEnd → Faults
+abbrev pub bad_end : Place → PathEnd → Faults
 bad_end at at_nothing = fault_at at cause.BadAlias
 bad_end at _ = []
 
-abbrev bad_alias : Program → Roots → ℕ → ℕ → WrittenMember → Faults
+abbrev pub bad_alias : Program → Roots → ℕ → ℕ → WrittenMember → Faults
 bad_alias p roots d o (an_alias q def n at target t) = bad_end t (end_of_alias p roots d o target)
 bad_alias p roots d o _ = []
 
@@ -102,7 +102,7 @@ alias_cycles p roots d = each_member p d (alias_cycle p roots d)
 
 -- ---- BadTarget: a PropertyChanges without an id as target. Where its type is a document, that gives one.
 
-abbrev is_built_in : TypeRef → Bool
+abbrev pub is_built_in : TypeRef → Bool
 is_built_in (Builtin t) = true
 is_built_in (OfDocument u) = false
 

@@ -16,32 +16,32 @@ use Rattle.load_faults.specs.Faults.{Faults, fault_at, fault_if, each_member, pl
 
 -- ---- UnknownProperty: a name, handler, group or default property that the object hasn't
 
-abbrev unknown_meaning : Place → PathMeaning → Faults
+abbrev pub unknown_meaning : Place → PathMeaning → Faults
 unknown_meaning at no_meaning = fault_at at cause.UnknownProperty
 unknown_meaning at _ = []
 
-abbrev unknown_value : Place → Purpose → Faults
+abbrev pub unknown_value : Place → Purpose → Faults
 unknown_value at (by_path s) = unknown_meaning at s
 unknown_value at _ = []
 
 -- a group is one of an object
-abbrev unknown_group : Place → PathMeaning → Faults
+abbrev pub unknown_group : Place → PathMeaning → Faults
 unknown_group at (an_object_of s) = []
 unknown_group at without_target = []
 unknown_group at _ = fault_at at cause.UnknownProperty
 
-abbrev unknown_default : Place → PathMeaning → Faults
+abbrev pub unknown_default : Place → PathMeaning → Faults
 unknown_default at (a_property_of way place k a own) = []
 unknown_default at (an_object_of s) = []
 unknown_default at without_target = []
 unknown_default at _ = fault_at at cause.UnknownProperty
 
-abbrev unknown_child : Program → Roots → ℕ → ℕ → Place → DefaultProperty → Faults
+abbrev pub unknown_child : Program → Roots → ℕ → ℕ → Place → DefaultProperty → Faults
 unknown_child p roots d o at no_default = fault_at at cause.UnknownProperty
 unknown_child p roots d o at (to_property n) = unknown_default at (meaning_of_path p roots (here d o) (n ∷ []))
 unknown_child p roots d o at _ = []
 
-abbrev unknown_member : Program → Roots → ℕ → ℕ → WrittenMember → Faults
+abbrev pub unknown_member : Program → Roots → ℕ → ℕ → WrittenMember → Faults
 unknown_member p roots d o (a_value at path v) = unknown_value at (purpose_of p roots d o path)
 unknown_member p roots d o (a_group at path) = unknown_group at (meaning_given p roots d o path)
 unknown_member p roots d o (a_child at n) = unknown_child p roots d o at (default_of p d o)
@@ -49,7 +49,7 @@ unknown_member p roots d o (a_stray at) = fault_at at cause.UnknownProperty
 unknown_member p roots d o _ = []
 
 -- in a ListElement stand values under one name alone
-abbrev unknown_in_row : WrittenMember → Faults
+abbrev pub unknown_in_row : WrittenMember → Faults
 unknown_in_row (an_id at n q) = fault_at at cause.UnknownProperty
 unknown_in_row (a_property at a k n q v) = fault_at at cause.UnknownProperty
 unknown_in_row (an_alias at def n q target t) = fault_at at cause.UnknownProperty

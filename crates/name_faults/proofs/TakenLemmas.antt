@@ -11,14 +11,14 @@ use Rattle.qml_types.specs.declared.kind.TypeRef.TheVariants.{Builtin, Document 
 use Rattle.qml_types.specs.Table.{own_cells, lineage}
 use Rattle.program_names.specs.Names.{is_in}
 use Rattle.program_names.specs.Loaded.{Program, object_at, type_of_object}
-use Rattle.program_names.specs.Layers.{Layer, of_type, of_object, Named, names_of_type, cells_of_layer, layers, names, type_names, meaning_in, meaning}
+use Rattle.program_names.specs.Layers.{Layer, of_type, of_object, Named, names_of_type, cells_of_layer, layers, names, type_names, meaning_in, meaning, names_of_members}
 use Rattle.program_tables.specs.declared.names.UnitNames.{UnitNames}
 use Rattle.program_tables.specs.BuiltIn.{built_in, built_in_meaning}
 use Rattle.program_tables.specs.Walk.{found_at}
 use Rattle.program_tables.specs.Stands.{Stands, is_there, meant}
 use Rattle.program_tables.specs.Types.{base_by, base_in}
 use Rattle.program_tables.proofs.NameLemmas.{built_in_means, eq_either_way}
-use Rattle.program_tables.proofs.MeaningLemmas.{names_of_members, layers_of_type, there}
+use Rattle.program_tables.proofs.MeaningLemmas.{layers_of_type, there}
 use Rattle.written_order.specs.InOrder.{has_by_type}
 use Rattle.name_faults.specs.Names.{type_has, is_taken}
 

@@ -3,9 +3,9 @@
 ghost use Rattle.std.specs.Prelude.{◌≡◌, ◌++◌, ◌∷◌, [], IfOk, OnOk};
 ghost use Rattle.name_faults.specs.Names as s;
 
-use crate::ids::is_inside;
 use crate::taken::{changed_name, is_taken};
 use document_members::Member;
+use document_tables::in_group;
 use load_passes::NameRow;
 use program_tables::{Names, UnitRow};
 use qml_base::{NoMemory, Place};
@@ -119,7 +119,7 @@ pub(crate) fn declared_rows(
             alloc,
             names,
             document,
-            is_inside(inside, number),
+            in_group(inside, number),
             row,
             &mut found,
         )?;

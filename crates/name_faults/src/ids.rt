@@ -1,26 +1,15 @@
 //! Ids of objects, as rows.
 
 ghost use Rattle.std.specs.Prelude.{◌≡◌, ◌++◌, IfOk, OnOk};
-ghost use Rattle.std.specs.Option.{unwrap_or};
-ghost use Rattle.std.specs.Prelude.{slice_get, false};
 ghost use Rattle.name_faults.specs.Names as s;
 
 use document_members::Member;
+use document_tables::in_group;
 use load_passes::NameRow;
 use program_tables::UnitRow;
 use qml_base::NoMemory;
 use qml_text::Text;
 use std::alloc::Global;
-
-/// Whether the row of a number stands in a group.
-pub(crate) fn is_inside(inside: &[bool], number: usize) -> bool
-    ensures { result ≡ unwrap_or (slice_get inside.now number) false }
-{
-    match inside.get(number) {
-        Some(inside) => *inside,
-        None => false,
-    }
-}
 
 /// The row of an id, at its word: all ids of an object have one name.
 fn push_id(inside: bool, row: &UnitRow, found: &mut Vec<NameRow>) -> Result<(), NoMemory>
@@ -55,7 +44,7 @@ pub(crate) fn id_rows(
 {
     let mut found = Vec::new(alloc);
     'rows: for (number, row) in rows.iter().enumerate() {
-        push_id(is_inside(inside, number), row, &mut found)?;
+        push_id(in_group(inside, number), row, &mut found)?;
     }
     Ok(found)
 }

@@ -1,6 +1,6 @@
 //! The search over a document, and over the documents of a program.
 
-ghost use Rattle.std.specs.Prelude.{◌≡◌, length, option_copied, slice_get, IfOk, OnOk};
+ghost use Rattle.std.specs.Prelude.{◌≡◌, length, IfOk, OnOk};
 ghost use Rattle.program_names.specs.Loaded.{Program};
 ghost use Rattle.load_faults.specs.Faults.{first_from};
 ghost use Rattle.document_tables.specs.Tables.{TellProgram};
@@ -9,7 +9,7 @@ ghost use Rattle.name_faults.specs.Names as s;
 use crate::declared::declared_rows;
 use crate::ids::id_rows;
 use crate::roles::role_rows;
-use document_tables::{DocumentTable, ProgramTables};
+use document_tables::{ProgramTables, table_at};
 use load_passes::{Best, tell_repeated};
 use program_names::Fault;
 use program_tables::{Names, UnitRow, names_mean_as_in_the_program, types_are_as_in_the_program};
@@ -41,13 +41,6 @@ fn tell_rows(
     let roles = role_rows(alloc, names, document, rows, inside)?;
     tell_repeated(alloc, &roles, cause, best)?;
     Ok(())
-}
-
-/// The table of the document of a number.
-fn table_at(documents: &[DocumentTable], document: usize) -> Option<&DocumentTable>
-    ensures { option_copied result ≡ slice_get documents.now document }
-{
-    documents.get(document)
 }
 
 /// Tells, of the document of a number, each name that an object declares again, of its type or of its own, each second id of an

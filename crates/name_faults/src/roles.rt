@@ -3,8 +3,8 @@
 ghost use Rattle.std.specs.Prelude.{◌≡◌, ◌++◌, IfOk, OnOk};
 ghost use Rattle.name_faults.specs.Names as s;
 
-use crate::ids::is_inside;
 use document_members::Member;
+use document_tables::in_group;
 use load_passes::NameRow;
 use program_tables::{Names, UnitRow};
 use qml_base::NoMemory;
@@ -79,7 +79,7 @@ pub(crate) fn role_rows(
             alloc,
             names,
             document,
-            is_inside(inside, number),
+            in_group(inside, number),
             row,
             &mut found,
         )?;

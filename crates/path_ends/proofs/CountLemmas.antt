@@ -11,6 +11,7 @@ use Rattle.qml_syntax.specs.Tree.{Units}
 use Rattle.qml_syntax.specs.Nodes.{Table}
 use Rattle.program_names.specs.Written.{WrittenObject, WrittenMember, an_alias, OwnedMember}
 use Rattle.program_names.specs.Loaded.{Program, Unit as AUnit, unit_at, object_at, no_object, no_unit}
+use Rattle.program_names.specs.PathMeanings.{aliases_of_unit, count_aliases}
 use Rattle.document_rows.specs.WholePaths.{path_at}
 use Rattle.document_rows.specs.WrittenObjects.{kept, members_of_object}
 use Rattle.document_members.specs.declared.member.Member.{Member}
@@ -20,11 +21,11 @@ use Rattle.program_tables.specs.declared.names.UnitNames.{UnitNames}
 use Rattle.program_tables.specs.declared.building.UnitRow.{UnitRow}
 use Rattle.program_tables.specs.Building.{is_group, is_inside}
 use Rattle.program_tables.specs.RowsSay.{RowsSay}
+use Rattle.program_tables.proofs.GroupLemmas.{is_filled, inside_alike, filled_by}
 use Rattle.path_ends.specs.declared.aliases.Alias.{Alias}
 use Rattle.path_ends.specs.declared.aliases.UnitAliases.{UnitAliases}
 use Rattle.path_ends.specs.Said.{count_in, count_of, SaidAlias, told, said, target_given, told_by, aliases_told}
-use Rattle.path_ends.specs.Known.{aliases_of_unit, SaysUnit}
-use Rattle.path_ends.proofs.ToldLemmas.{is_filled, inside_alike, filled_by}
+use Rattle.path_ends.specs.Known.{SaysUnit}
 
 -- ---- of rows
 
@@ -86,11 +87,6 @@ count_rows p u t grouping paths (r ∷ rs) (w ∷ ws) h e =
     sym (map-append is_filled paths ((before ++ added_by r.member) ∷ []))))
 
 -- ---- of objects
-
-abbrev count_aliases : List WrittenMember → ℕ
-count_aliases [] = 0
-count_aliases (an_alias q def n at t u ∷ rest) = suc (count_aliases rest)
-count_aliases (m ∷ rest) = count_aliases rest
 
 count_one : (x : WrittenMember) (rest : List WrittenMember) → count_aliases (x ∷ rest) ≡ one x + count_aliases rest
 count_one (an_alias q c n at t v) rest = one_on (count_aliases rest)

@@ -9,9 +9,9 @@ use Rattle.qml_syntax.specs.Tree.{Units}
 use Rattle.qml_types.specs.declared.kind.PropKind.{PropKind}
 use Rattle.qml_types.specs.declared.kind.Access.{Access}
 use Rattle.program_names.specs.Loaded.{Program}
-use Rattle.program_names.specs.Layers.{NameMeaning, a_cell, an_alias_of, meaning}
-use Rattle.program_names.specs.Components.{Roots, root_of, id_in}
-use Rattle.program_names.specs.PathMeanings.{Way, SeenObject, way_to, here, PathEnd, at_cell, at_object, at_nothing, in_circle, end_of, end_of_alias}
+use Rattle.program_names.specs.Layers.{meaning}
+use Rattle.program_names.specs.Components.{Roots}
+use Rattle.program_names.specs.PathMeanings.{Way, SeenObject, way_to, here, PathEnd, at_cell, at_object, at_nothing, in_circle, end_of, end_of_alias, Follow, cell_end, go_on, end_from_id, end_of_target, end_by_meaning, end_within, steps_enough, holder_in, aliases_of_unit}
 use Rattle.program_tables.specs.declared.built_in.BuiltInName.{BuiltInName}
 use Rattle.program_tables.specs.declared.built_in.BuiltInName.TheVariants as b
 use Rattle.program_tables.specs.declared.names.Meaning.{Meaning}
@@ -25,49 +25,14 @@ use Rattle.path_ends.specs.declared.aliases.UnitAliases.{UnitAliases}
 use Rattle.path_ends.specs.declared.aliases.UnitIds.{UnitIds}
 use Rattle.path_ends.specs.declared.aliases.UnitEnds.{UnitEnds}
 use Rattle.path_ends.specs.Said.{alias_in, target_of, count_of, known_end, rank_in, id_seen}
-use Rattle.path_ends.specs.Ends.{end_through, holder_in, found, end_built_in, end_by, followed, walked, end_from, is_lower, one_falls, falls, falls_from}
-use Rattle.path_ends.specs.Known.{IsThere, is_circle, KnowsAlias, KnowsAll, aliases_of_unit, SaysAlias, Tells}
+use Rattle.path_ends.specs.Ends.{end_through, found, end_built_in, end_by, followed, walked, end_from, is_lower, one_falls, falls, falls_from}
+use Rattle.path_ends.specs.Known.{IsThere, is_circle, KnowsAlias, KnowsAll, SaysAlias, Tells}
 use Rattle.path_ends.proofs.FoundLemmas.{Declares, alias_declared}
 use Rattle.path_ends.proofs.ThroughLemmas.{FitsAll, AllFit, path_through, falls_through, there_through}
 
 -- ---- the definition, by the words that it is made of
 
-abbrev Follow : Type 0
-Follow = SeenObject → List Units → PathEnd
-
-abbrev cell_end : SeenObject → ℕ → PropKind → Access → List Units → PathEnd
-cell_end s place k a [] = at_cell (way_to s) place k a
-cell_end s place k a (n ∷ rest) = at_nothing
-
-abbrev go_on : Follow → PathEnd → List Units → PathEnd
-go_on follow x [] = x
-go_on follow (at_object t) (m ∷ more) = follow t (m ∷ more)
-go_on follow (at_cell w c k a) (m ∷ more) = at_nothing
-go_on follow at_nothing (m ∷ more) = at_nothing
-go_on follow in_circle (m ∷ more) = in_circle
-
-abbrev end_from_id : Follow → Option Way → ℕ → Option ℕ → List Units → PathEnd
-end_from_id follow holder d None more = at_nothing
-end_from_id follow holder d (Some o) more = follow (record { holder = holder; document = d; object = o }) more
-
-abbrev end_of_target : Follow → Program → Roots → Option Way → ℕ → ℕ → List Units → PathEnd
-end_of_target follow p roots holder d o [] = at_nothing
-end_of_target follow p roots holder d o (i ∷ more) = end_from_id follow holder d (id_in p roots d (root_of p roots d o) i) more
-
-abbrev end_by_meaning : Follow → Program → Roots → SeenObject → List Units → Option NameMeaning → PathEnd
-end_by_meaning follow p roots s rest (Some (a_cell place k a)) = cell_end s place k a rest
-end_by_meaning follow p roots s rest (Some (an_alias_of d o target)) = go_on follow (end_of_target follow p roots (holder_in s d) d o target) rest
-end_by_meaning follow p roots s rest _ = at_nothing
-
-abbrev within : ℕ → Program → Roots → SeenObject → List Units → PathEnd
-within zero p roots s path = in_circle
-within (suc f) p roots s [] = at_object s
-within (suc f) p roots s (n ∷ rest) = end_by_meaning (λ t path. within f p roots t path) p roots s rest (meaning p s.document s.object n)
-
-abbrev steps_enough : Program → List Units → ℕ
-steps_enough p path = 4 + length path + 4 * sum_by aliases_of_unit p
-
-end_so : (p : Program) (roots : Roots) (s : SeenObject) (path : List Units) → end_of p roots s path ≡ within (steps_enough p path) p roots s path
+end_so : (p : Program) (roots : Roots) (s : SeenObject) (path : List Units) → end_of p roots s path ≡ end_within (steps_enough p path) p roots s path
 end_so p roots s path = refl
 
 -- ---- ends that stay
@@ -98,7 +63,7 @@ record Found (p : Program) (us : List UnitNames) (ids : List UnitIds) (aliases :
 module _ (p : Program) (roots : Roots) (us : List UnitNames) (ids : List UnitIds) (aliases : List UnitAliases) (known : List UnitEnds)
     (tells : Tells p roots us ids aliases) (knows : KnowsAll us ids aliases known) where
   abbrev E : ℕ → Follow
-  E f s path = within f p roots s path
+  E f s path = end_within f p roots s path
 
   abbrev W : PathEnd → List Units → PathEnd
   W x path = walked us known x path

@@ -3,7 +3,7 @@ use Rattle.std.proofs.Common.{◌≡◌, ◌∙◌, ap, sym, refl, ℕ, Bool, tr
 use Rattle.std.specs.Prelude.{nat_eq, ◌&&◌, if◌then◌else◌}
 use Rattle.std.proofs.lemmas.Bool.{eqb-true}
 use Rattle.qml_syntax.specs.Tree.{Units}
-use Rattle.program_names.specs.PathMeanings.{Way, SeenObject, way_to, PathEnd, at_cell, at_object, at_nothing, in_circle}
+use Rattle.program_names.specs.PathMeanings.{Way, SeenObject, way_to, PathEnd, at_cell, at_object, at_nothing, in_circle, holder_in}
 use Rattle.program_tables.specs.declared.built_in.BuiltInName.{BuiltInName}
 use Rattle.program_tables.specs.declared.built_in.BuiltInName.TheVariants as b
 use Rattle.program_tables.specs.declared.names.Meaning.{Meaning}
@@ -11,7 +11,7 @@ use Rattle.program_tables.specs.declared.names.Meaning.TheVariants as m
 use Rattle.program_tables.specs.declared.names.UnitNames.{UnitNames}
 use Rattle.path_ends.specs.declared.aliases.UnitEnds.{UnitEnds}
 use Rattle.path_ends.specs.Said.{known_end}
-use Rattle.path_ends.specs.Ends.{hop_to, way_through, holder_through, seen_through, end_through, holder_in, found, end_built_in, end_by, followed, walked, one_falls, falls}
+use Rattle.path_ends.specs.Ends.{hop_to, way_through, holder_through, seen_through, end_through, found, end_built_in, end_by, followed, walked, one_falls, falls}
 use Rattle.path_ends.specs.Known.{Fits, IsThere}
 use Rattle.path_ends.proofs.WayLemmas.{a_way, way_in, inside}
 

@@ -31,6 +31,7 @@ use Rattle.program_tables.specs.RowsSay.{RowsSay}
 use Rattle.program_tables.specs.Stands.{is_there, target_in}
 use Rattle.program_tables.specs.Walk.{object_in}
 use Rattle.program_tables.proofs.NameLemmas.{under_put}
+use Rattle.program_tables.proofs.GroupLemmas.{is_filled, inside_alike, filled_by}
 use Rattle.alias_tables.specs.Roots.{root_at}
 use Rattle.alias_tables.specs.Ids.{id_found}
 use Rattle.alias_tables.proofs.IdLemmas.{ids_as_meant}
@@ -140,25 +141,6 @@ nothing_only : (all : List (Option SaidAlias)) (bases : List TypeRef) → AllOnl
 nothing_only all bases o x i name row j = none_some (d.Alias row) (sym (ap (λ ns. under ns name) (names_of_nothing bases o x i)) ∙ j)
 
 -- ---- the member of a row that tells an alias
-
-abbrev pub is_filled : List Units → Bool
-is_filled [] = false
-is_filled (n ∷ ns) = true
-
-pub inside_alike : (paths : List (List Units)) (g : Option ℕ) → is_inside (map is_filled paths) g ≡ is_filled (path_at paths g)
-inside_alike paths None = refl
-inside_alike paths (Some k) = at paths k
-  where
-    at : (paths : List (List Units)) (k : ℕ) → unwrap_or (slice_get (map is_filled paths) k) false ≡ is_filled (unwrap_or (slice_get paths k) [])
-    at [] k = refl
-    at (x ∷ paths) zero = refl
-    at (x ∷ paths) (suc k) = at paths k
-
-pub filled_by : (before : List Units) (x : Member) → is_filled (before ++ added_by x) ≡ (is_filled before || is_group x)
-filled_by (n ∷ ns) x = refl
-filled_by [] (m.Group path) = refl
-filled_by [] (m.Id w n at) = refl
-filled_by [] _ = refl
 
 abbrev target_said : Option SaidAlias → List Units
 target_said None = []

@@ -3,11 +3,11 @@ use Rattle.std.proofs.Common.{◌≡◌, ◌∙◌, ap, sym, refl, ℕ, Bool, tr
 use Rattle.std.specs.Prelude.{nat_eq, if◌then◌else◌}
 use Rattle.std.specs.Option.{option_map}
 use Rattle.std.proofs.lemmas.List.{append-nil}
-use Rattle.program_names.specs.PathMeanings.{Way as AWay, SeenObject as ASeen, way_to}
+use Rattle.program_names.specs.PathMeanings.{Way as AWay, SeenObject as ASeen, way_to, holder_in}
 use Rattle.path_ends.specs.declared.ends.Way.{Way}
 use Rattle.path_ends.specs.declared.ends.SeenObject.{SeenObject}
 use Rattle.path_ends.specs.Said.{way_of, seen_of}
-use Rattle.path_ends.specs.Ends.{hop_to, way_through, holder_in}
+use Rattle.path_ends.specs.Ends.{hop_to, way_through}
 
 abbrev pub a_way : ℕ → List (ℕ × ℕ) → AWay
 a_way b hops = record { base = b; hops = hops }

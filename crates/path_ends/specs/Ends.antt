@@ -2,7 +2,7 @@
 -- sees it; from elsewhere it is seen through the object that has this document as a type.
 use Rattle.std.specs.Prelude.{ℕ, ◌+◌, nat_eq, nat_lt, Bool, true, ◌&&◌, if◌then◌else◌, List, [], ◌∷◌, ◌++◌, length, Option, Some, None}
 use Rattle.qml_syntax.specs.Tree.{Units}
-use Rattle.program_names.specs.PathMeanings.{Way, SeenObject, way_to, here, PathEnd, at_cell, at_object, at_nothing, in_circle}
+use Rattle.program_names.specs.PathMeanings.{Way, SeenObject, way_to, here, PathEnd, at_cell, at_object, at_nothing, in_circle, holder_in}
 use Rattle.program_tables.specs.declared.built_in.BuiltInName.{BuiltInName}
 use Rattle.program_tables.specs.declared.built_in.BuiltInName.TheVariants as b
 use Rattle.program_tables.specs.declared.names.Meaning.{Meaning}
@@ -35,10 +35,6 @@ end_through h d (at_cell w place k a) = at_cell (way_through h d w) place k a
 end_through h d (at_object s) = at_object (seen_through h d s)
 end_through h d at_nothing = at_nothing
 end_through h d in_circle = in_circle
-
--- what an object is in the document of one of its layers
-abbrev pub holder_in : SeenObject → ℕ → Option Way
-holder_in s d = if nat_eq d s.document then s.holder else Some (way_to s)
 
 -- ---- along a path
 

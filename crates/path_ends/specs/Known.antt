@@ -4,10 +4,10 @@ use Rattle.std.specs.List.{sum_by}
 use Rattle.name_table.specs.Named.{under}
 use Rattle.qml_syntax.specs.Tree.{Units}
 use Rattle.qml_syntax.specs.Nodes.{Table}
-use Rattle.program_names.specs.Written.{WrittenObject, WrittenMember, an_alias, OwnedMember}
-use Rattle.program_names.specs.Loaded.{Program, Unit as AUnit, unit_at}
+use Rattle.program_names.specs.Written.{OwnedMember}
+use Rattle.program_names.specs.Loaded.{Program, unit_at}
 use Rattle.program_names.specs.Components.{Roots, root_of, id_in}
-use Rattle.program_names.specs.PathMeanings.{Way, PathEnd, at_object, in_circle}
+use Rattle.program_names.specs.PathMeanings.{Way, PathEnd, at_object, in_circle, aliases_of_unit}
 use Rattle.program_tables.specs.declared.names.Declared.TheVariants as d
 use Rattle.program_tables.specs.declared.names.ObjectNames.{ObjectNames}
 use Rattle.program_tables.specs.declared.names.UnitNames.{UnitNames}
@@ -74,14 +74,6 @@ KnowsAll us ids aliases known = (d row : ℕ) (a : Alias) → alias_in aliases d
     KnowsAlias us ids known (count_of aliases) d row a
 
 -- ---- of a program
-
-abbrev count_aliases : List WrittenMember → ℕ
-count_aliases [] = 0
-count_aliases (an_alias q def n at t u ∷ rest) = suc (count_aliases rest)
-count_aliases (m ∷ rest) = count_aliases rest
-
-abbrev pub aliases_of_unit : AUnit → ℕ
-aliases_of_unit u = sum_by (λ (w : WrittenObject). count_aliases w.members) u.objects
 
 -- the alias that a row declares for an object
 pub record SaysAlias (p : Program) (aliases : List UnitAliases) (u o row : ℕ) : Type 0 where

@@ -1,15 +1,13 @@
 //! What is kept of aliases and ids.
 
 ghost use Rattle.std.specs.Prelude.{◌≡◌, [], ◌∷◌, Some, map, option_copied, IfOk};
-ghost use Rattle.program_tables.specs.Building.{is_group, is_inside};
-ghost use Rattle.alias_tables.specs.Roots.{root_at};
 ghost use Rattle.path_ends.specs.Said as s;
 
 use crate::ends::PathEnd;
-use alias_tables::object_of_id;
+use alias_tables::{object_of_id, root_at};
 use document_members::{Member, NamePath};
 use name_table::NameTable;
-use program_tables::UnitRow;
+use program_tables::{UnitRow, is_group, is_inside};
 use qml_base::{NoMemory, Place};
 use qml_text::Text;
 use std::alloc::Global;
@@ -97,15 +95,6 @@ pub(crate) fn id_seen(
     }
 }
 
-fn root_at(roots: &[usize], object: usize) -> usize
-    ensures { result ≡ root_at roots.now object }
-{
-    match roots.get(object) {
-        Some(root) => *root,
-        None => 0,
-    }
-}
-
 /// The aliases of a document, where these are its rows.
 #[tactic(auto, using(crate::proofs::RowLemmas::rows_go_on))]
 pub fn unit_aliases(alloc: Global, rows: &[UnitRow]) -> Result<UnitAliases, NoMemory>
@@ -170,28 +159,6 @@ fn copy_names(alloc: Global, names: &[Text]) -> Result<Vec<Text>, NoMemory>
         copies.push(copy)?;
     }
     Ok(copies)
-}
-
-/// Whether a row stands in a group, where `grouping` says of each row before it whether what is in it does.
-fn is_inside(grouping: &[bool], group: Option<usize>) -> bool
-    ensures { result ≡ is_inside grouping.now group }
-{
-    match group {
-        Some(row) => match grouping.get(row) {
-            Some(inside) => *inside,
-            None => false,
-        },
-        None => false,
-    }
-}
-
-fn is_group(member: &Member) -> bool
-    ensures { result ≡ is_group member.now }
-{
-    match member {
-        Member::Group { path: _ } => true,
-        _ => false,
-    }
 }
 
 /// How many aliases there are.

@@ -14,7 +14,7 @@ ghost use Rattle.path_ends.specs.declared.aliases.UnitIds as i;
 ghost use Rattle.path_ends.specs.declared.aliases.UnitEnds as e;
 ghost use Rattle.path_ends.specs.Said.{alias_in, target_of, count_of, known_end};
 ghost use Rattle.path_ends.specs.Ends.{walked};
-ghost use Rattle.path_ends.specs.Known.{KnowsAll, aliases_of_unit, Tells, AliasesTold, IdsTold, SaysUnit, SaysIds};
+ghost use Rattle.path_ends.specs.Known.{KnowsAll, Tells, AliasesTold, IdsTold, SaysUnit, SaysIds};
 
 /// Names and aliases that are made from the same rows of all documents tell each alias that an object declares.
 pub fn aliases_of_rows_are_told()

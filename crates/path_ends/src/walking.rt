@@ -1,7 +1,7 @@
 //! Going along a path.
 
 ghost use Rattle.std.specs.Prelude.{◌≡◌, IfOk};
-ghost use Rattle.program_names.specs.PathMeanings.{at_cell, way_to as way_to_object};
+ghost use Rattle.program_names.specs.PathMeanings.{at_cell, holder_in, way_to as way_to_object};
 ghost use Rattle.path_ends.specs.Said.{seen_of, end_of, target_of, known_end};
 ghost use Rattle.path_ends.specs.Ends as s;
 
@@ -41,7 +41,7 @@ fn end_at_alias(
     row: usize,
 ) -> Result<PathEnd, NoMemory>
     ensures { IfOk result (λ x. end_of x ≡
-        s.end_through (s.holder_in (seen_of at.now) document) document (known_end known.now document row)) }
+        s.end_through (holder_in (seen_of at.now) document) document (known_end known.now document row)) }
 {
     match known_at(known, document, row) {
         Some(entry) => {

@@ -2,7 +2,7 @@
 
 ghost use Rattle.std.specs.Prelude.{◌≡◌, ◌++◌, IfOk};
 ghost use Rattle.std.specs.Option.{option_map};
-ghost use Rattle.program_names.specs.PathMeanings.{way_to as way_to_object};
+ghost use Rattle.program_names.specs.PathMeanings.{holder_in, way_to as way_to_object};
 ghost use Rattle.path_ends.specs.Said.{way_of, seen_of, end_of};
 ghost use Rattle.path_ends.specs.Ends as s;
 
@@ -70,7 +70,7 @@ pub(crate) fn holder_in(
     seen: &SeenObject,
     document: usize,
 ) -> Result<Option<Way>, NoMemory>
-    ensures { IfOk result (λ h. option_map way_of h ≡ s.holder_in (seen_of seen.now) document) }
+    ensures { IfOk result (λ h. option_map way_of h ≡ holder_in (seen_of seen.now) document) }
 {
     if document == seen.document {
         let holder = copy_holder(alloc, &seen.holder)?;

@@ -24,22 +24,22 @@ target_in (a_value at (n ∷ []) v ∷ rest) = if bytes_eq n (codes "target") th
 target_in (m ∷ rest) = target_in rest
 
 -- whether a name is one that expressions see
-abbrev is_seen : Option NameMeaning → Bool
+abbrev pub is_seen : Option NameMeaning → Bool
 is_seen None = false
 is_seen (Some the_children) = false
 is_seen (Some m) = true
 
-abbrev has_name : Program → ℕ → ℕ → Units → Bool
+abbrev pub has_name : Program → ℕ → ℕ → Units → Bool
 has_name p d o n = is_seen (meaning p d o n)
 
-abbrev unless_hidden : Option ℕ → Bool → Option ℕ → Option ℕ
+abbrev pub unless_hidden : Option ℕ → Bool → Option ℕ → Option ℕ
 unless_hidden (Some o) hidden further = Some o
 unless_hidden None true further = None
 unless_hidden None false further = further
 
 -- the object of an id by the order of names: in the components outwards, where no name of their roots, and of the scope
 -- object in the first, comes before
-abbrev id_outwards : ℕ → Program → Roots → ℕ → Bool → ℕ → Units → Option ℕ
+abbrev pub id_outwards : ℕ → Program → Roots → ℕ → Bool → ℕ → Units → Option ℕ
 id_outwards zero p roots d hidden root n = None
 id_outwards (suc f) p roots d hidden root n =
     unless_hidden (id_in p roots d root n) (hidden || has_name p d root n)
@@ -108,7 +108,7 @@ abbrev is_component_kind : PropKind → Bool
 is_component_kind kind.Component = true
 is_component_kind _ = false
 
-abbrev root_by : Program → ℕ → ℕ → PathMeaning → IsRoot
+abbrev pub root_by : Program → ℕ → ℕ → PathMeaning → IsRoot
 root_by p d o (a_property_of w place k a own) = Some (is_component_kind k && not (is_type p d o no.Component))
 root_by p d o (an_object_of s) = Some false
 root_by p d o (a_handler names) = Some false
@@ -116,7 +116,7 @@ root_by p d o (children_of w) = Some false
 root_by p d o no_meaning = None
 root_by p d o without_target = None
 
-abbrev root_as_child : Program → Roots → ℕ → ℕ → ℕ → DefaultProperty → IsRoot
+abbrev pub root_as_child : Program → Roots → ℕ → ℕ → ℕ → DefaultProperty → IsRoot
 root_as_child p roots d o w to_component = Some true
 root_as_child p roots d o w (to_property n) = root_by p d o (meaning_of_path p roots (here d w) (n ∷ []))
 root_as_child p roots d o w _ = Some false
@@ -128,20 +128,20 @@ root_as p roots d o (as_child w) = root_as_child p roots d o w (default_of p d w
 root_as p roots d o (as_value w path) = root_by p d o (meaning_given p roots d w path)
 
 -- what is known after one more round: an object is looked at once all around it are known
-abbrev owner_known : Program → Roots → ℕ → Option ℕ → Bool
+abbrev pub owner_known : Program → Roots → ℕ → Option ℕ → Bool
 owner_known p roots d None = true
 owner_known p roots d (Some w) = is_known p roots d w
 
-abbrev next_root : Program → Roots → ℕ → ℕ → WrittenObject → IsRoot → IsRoot
+abbrev pub next_root : Program → Roots → ℕ → ℕ → WrittenObject → IsRoot → IsRoot
 next_root p roots d o w (Some b) = Some b
 next_root p roots d o w None =
     elim (owner_known p roots d (owner p d o)) [ true ↦ root_as p roots d o w.role | false ↦ None ]
 
-abbrev next_roots : Program → Roots → ℕ → ℕ → List WrittenObject → List IsRoot
+abbrev pub next_roots : Program → Roots → ℕ → ℕ → List WrittenObject → List IsRoot
 next_roots p roots d o [] = []
 next_roots p roots d o (w ∷ rest) = next_root p roots d o w (is_root_at roots d o) ∷ next_roots p roots d (suc o) rest
 
-abbrev next_round : Program → Roots → ℕ → List Unit → Roots
+abbrev pub next_round : Program → Roots → ℕ → List Unit → Roots
 next_round p roots d [] = []
 next_round p roots d (u ∷ rest) = next_roots p roots d 0 u.objects ∷ next_round p roots (suc d) rest
 
@@ -150,33 +150,33 @@ same_root None None = true
 same_root (Some a) (Some b) = if a then b else not b
 same_root _ _ = false
 
-abbrev same_row : List IsRoot → List IsRoot → Bool
+abbrev pub same_row : List IsRoot → List IsRoot → Bool
 same_row [] [] = true
 same_row (a ∷ more) (b ∷ others) = same_root a b && same_row more others
 same_row _ _ = false
 
-abbrev same_roots : Roots → Roots → Bool
+abbrev pub same_roots : Roots → Roots → Bool
 same_roots [] [] = true
 same_roots (a ∷ more) (b ∷ others) = same_row a b && same_roots more others
 same_roots _ _ = false
 
-abbrev rounds : ℕ → Program → Roots → Roots
+abbrev pub rounds : ℕ → Program → Roots → Roots
 rounds zero p roots = roots
 rounds (suc n) p roots =
     let next = next_round p roots 0 p in
     elim (same_roots roots next) [ true ↦ roots | false ↦ rounds n p next ]
 
-abbrev unknown : WrittenObject → IsRoot
+abbrev pub unknown : WrittenObject → IsRoot
 unknown w = None
 
-abbrev nothing_known : Program → Roots
+abbrev pub nothing_known : Program → Roots
 nothing_known p = map (λ (u : Unit). map unknown u.objects) p
 
-abbrev settled : IsRoot → IsRoot
+abbrev pub settled : IsRoot → IsRoot
 settled None = Some false
 settled (Some b) = Some b
 
-abbrev rounds_enough : Program → ℕ
+abbrev pub rounds_enough : Program → ℕ
 rounds_enough p = suc (length (flat_map (λ (u : Unit). u.objects) p))
 
 -- what is never known is given under a name that means nothing, and stays in the component around it

@@ -29,16 +29,16 @@ owner_by (as_value w path) = Some w
 abbrev pub owner : Program → ℕ → ℕ → Option ℕ
 owner p d o = owner_by (object_at p d o).role
 
-abbrev is_true : IsRoot → Bool
+abbrev pub is_true : IsRoot → Bool
 is_true (Some b) = b
 is_true None = false
 
-abbrev around : {A : Type 0} → A → (ℕ → A) → Option ℕ → A
+abbrev pub around : {A : Type 0} → A → (ℕ → A) → Option ℕ → A
 around last go_on None = last
 around last go_on (Some w) = go_on w
 
 -- the root of the component in which an object stands, with this many objects around it at most
-abbrev root_within : ℕ → Program → Roots → ℕ → ℕ → ℕ
+abbrev pub root_within : ℕ → Program → Roots → ℕ → ℕ → ℕ
 root_within zero p roots d o = 0
 root_within (suc n) p roots d o =
     elim (is_true (is_root_at roots d o)) [
@@ -50,7 +50,7 @@ abbrev pub root_of : Program → Roots → ℕ → ℕ → ℕ
 root_of p roots d o = root_within (length (unit_at p d).objects) p roots d o
 
 -- whether it is known for an object and all around it
-abbrev known_within : ℕ → Program → Roots → ℕ → ℕ → Bool
+abbrev pub known_within : ℕ → Program → Roots → ℕ → ℕ → Bool
 known_within zero p roots d o = true
 known_within (suc n) p roots d o =
     elim (is_some (is_root_at roots d o)) [
@@ -73,11 +73,11 @@ pub record Id : Type 0 where
   pub at : Place
   pub object : ℕ
 
-abbrev with_id : ℕ → WrittenMember → List Id → List Id
+abbrev pub with_id : ℕ → WrittenMember → List Id → List Id
 with_id o (an_id word name at) rest = record { word = word; name = name; at = at; object = o } ∷ rest
 with_id o m rest = rest
 
-abbrev ids_of_rows : List OwnedMember → List Id
+abbrev pub ids_of_rows : List OwnedMember → List Id
 ids_of_rows [] = []
 ids_of_rows (r ∷ rest) = with_id r.object r.member (ids_of_rows rest)
 
@@ -85,7 +85,7 @@ ids_of_rows (r ∷ rest) = with_id r.object r.member (ids_of_rows rest)
 abbrev pub ids_written : Program → ℕ → List Id
 ids_written p d = ids_of_rows (unit_at p d).rows
 
-abbrev stands_in : Program → Roots → ℕ → ℕ → Id → Bool
+abbrev pub stands_in : Program → Roots → ℕ → ℕ → Id → Bool
 stands_in p roots d root i = is_known p roots d i.object && nat_eq (root_of p roots d i.object) root
 
 -- the ids of a component
@@ -95,7 +95,7 @@ ids_in p roots d root = filter (stands_in p roots d root) (ids_written p d)
 abbrev pub is_before : Place → Place → Bool
 is_before a b = nat_lt a.line b.line || (nat_eq a.line b.line && nat_lt a.column b.column)
 
-abbrev first_id : List Id → Units → Option ℕ
+abbrev pub first_id : List Id → Units → Option ℕ
 first_id [] name = None
 first_id (i ∷ rest) name = if bytes_eq i.name name then Some i.object else first_id rest name
 

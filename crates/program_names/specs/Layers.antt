@@ -130,7 +130,7 @@ access_of adjective.ReadOnly = ReadOnly
 access_of _ = Writable
 
 -- Each declared property has a signal of its changes, an alias has none.
-abbrev names_of_member : Program → ℕ → ℕ → ℕ → WrittenMember → List Named
+abbrev pub names_of_member : Program → ℕ → ℕ → ℕ → WrittenMember → List Named
 names_of_member p d o place (a_property q a k n at v) =
     named n at (a_cell place (kind_named p d k) (access_of a)) ∷ named (changed n) at (a_signal_of []) ∷ []
 names_of_member p d o place (an_alias q def n at target t) = named n at (an_alias_of d o target) ∷ []
@@ -138,20 +138,20 @@ names_of_member p d o place (a_signal q n at names) = named n at (a_signal_of na
 names_of_member p d o place (a_function q f n at) = named n at (a_function_of d o f) ∷ []
 names_of_member p d o place _ = []
 
-abbrev cells_of_member : WrittenMember → ℕ
+abbrev pub cells_of_member : WrittenMember → ℕ
 cells_of_member (a_property q a k n at v) = 1
 cells_of_member _ = 0
 
-abbrev names_of_members : Program → ℕ → ℕ → ℕ → List WrittenMember → List Named
+abbrev pub names_of_members : Program → ℕ → ℕ → ℕ → List WrittenMember → List Named
 names_of_members p d o place [] = []
 names_of_members p d o place (m ∷ rest) =
     names_of_member p d o place m ++ names_of_members p d o (place + cells_of_member m) rest
 
-abbrev cells_of_members : List WrittenMember → ℕ
+abbrev pub cells_of_members : List WrittenMember → ℕ
 cells_of_members [] = 0
 cells_of_members (m ∷ rest) = cells_of_member m + cells_of_members rest
 
-abbrev names_of_layer : Program → ℕ → Layer → List Named
+abbrev pub names_of_layer : Program → ℕ → Layer → List Named
 names_of_layer p place (of_type t) = names_of_type t
 names_of_layer p place (of_object d o) = names_of_members p d o place (object_at p d o).members
 
@@ -159,7 +159,7 @@ abbrev pub cells_of_layer : Program → Layer → ℕ
 cells_of_layer p (of_type t) = length (own_cells t)
 cells_of_layer p (of_object d o) = cells_of_members (object_at p d o).members
 
-abbrev names_of_layers : Program → ℕ → List Layer → List Named
+abbrev pub names_of_layers : Program → ℕ → List Layer → List Named
 names_of_layers p place [] = []
 names_of_layers p place (layer ∷ rest) =
     names_of_layer p place layer ++ names_of_layers p (place + cells_of_layer p layer) rest
@@ -185,19 +185,19 @@ meaning p d o name = meaning_in (names p d o) name
 
 -- ---- handlers
 
-abbrev parameters_of : NameMeaning → Option (List Units)
+abbrev pub parameters_of : NameMeaning → Option (List Units)
 parameters_of (a_signal_of names) = Some names
 parameters_of _ = None
 
-abbrev handled_by : Units → Named → Option (List Units)
+abbrev pub handled_by : Units → Named → Option (List Units)
 handled_by handler n = if bytes_eq (handler_of n.name) handler then parameters_of n.what else None
 
-abbrev joined_names : Option (List Units) → Option (List Units) → Option (List Units)
+abbrev pub joined_names : Option (List Units) → Option (List Units) → Option (List Units)
 joined_names None b = b
 joined_names (Some a) None = Some a
 joined_names (Some a) (Some b) = Some (a ++ b)
 
-abbrev handled_in : Units → List Named → Option (List Units)
+abbrev pub handled_in : Units → List Named → Option (List Units)
 handled_in handler [] = None
 handled_in handler (n ∷ rest) = joined_names (handled_by handler n) (handled_in handler rest)
 
@@ -216,29 +216,29 @@ pub data DefaultProperty : Type 0 where
   to_component : DefaultProperty
   to_rows : DefaultProperty
 
-abbrev name_of_place : TypeNo → ℕ → Units
+abbrev pub name_of_place : TypeNo → ℕ → Units
 name_of_place t place = unwrap_or (option_map (λ (cell : TypeCell). cell.name) (slice_get (cells_of t) place)) []
 
-abbrev default_by : TypeNo → DefaultMember → DefaultProperty
+abbrev pub default_by : TypeNo → DefaultMember → DefaultProperty
 default_by t (member.Property place) = to_property (name_of_place t place)
 default_by t member.Children = to_children
 default_by t member.Held = to_component
 default_by t member.Rows = to_rows
 
-abbrev default_of_member : WrittenMember → Option DefaultProperty
+abbrev pub default_of_member : WrittenMember → Option DefaultProperty
 default_of_member (a_property q adjective.Default k n at v) = Some (to_property n)
 default_of_member (an_alias q true n at target t) = Some (to_property n)
 default_of_member _ = None
 
-abbrev last_default : List WrittenMember → Option DefaultProperty
+abbrev pub last_default : List WrittenMember → Option DefaultProperty
 last_default [] = None
 last_default (m ∷ rest) = option_or (last_default rest) (default_of_member m)
 
-abbrev default_of_layer : Program → Layer → Option DefaultProperty
+abbrev pub default_of_layer : Program → Layer → Option DefaultProperty
 default_of_layer p (of_type t) = option_map (default_by t) (default_member t)
 default_of_layer p (of_object d o) = last_default (object_at p d o).members
 
-abbrev default_of_layers : Program → List Layer → Option DefaultProperty
+abbrev pub default_of_layers : Program → List Layer → Option DefaultProperty
 default_of_layers p [] = None
 default_of_layers p (layer ∷ rest) = option_or (default_of_layers p rest) (default_of_layer p layer)
 

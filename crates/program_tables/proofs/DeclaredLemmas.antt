@@ -19,7 +19,7 @@ use Rattle.qml_types.specs.declared.kind.TypeRef.TheVariants.{Document as OfDocu
 use Rattle.program_names.specs.Names.{changed}
 use Rattle.program_names.specs.Written.{WrittenMember, WrittenValue, a_property, an_id, an_alias, a_signal, a_function, OwnedMember}
 use Rattle.program_names.specs.Loaded.{Program, unit_at, object_at, type_of_object, kind_named}
-use Rattle.program_names.specs.Layers.{DefaultProperty, of_object, cells_of_layer, own_names, NameMeaning, a_cell, a_signal_of, a_function_of, an_alias_of, access_of, Named, meaning_in}
+use Rattle.program_names.specs.Layers.{DefaultProperty, of_object, cells_of_layer, own_names, NameMeaning, a_cell, a_signal_of, a_function_of, an_alias_of, access_of, Named, meaning_in, names_of_member, cells_of_member, names_of_members, cells_of_members}
 use Rattle.document_rows.specs.WholePaths.{path_at}
 use Rattle.document_rows.specs.WrittenObjects.{kept, members_of_object}
 use Rattle.document_members.specs.declared.member.Member.{Member}
@@ -37,7 +37,7 @@ use Rattle.program_tables.specs.Stands.{meant, member_at, parameters_in, functio
 use Rattle.program_tables.specs.Building.{nothing_declared, is_default, with_name, declared, is_group, is_inside, changed_at, row_added, rows_added}
 use Rattle.program_tables.specs.RowsSay.{SaysKind, SaysRow, RowsSay, UnitSays}
 use Rattle.program_tables.proofs.NameLemmas.{in_both, under_put, or_assoc, eq_either_way}
-use Rattle.program_tables.proofs.MeaningLemmas.{names_of_member, cells_of_member, names_of_members}
+use Rattle.program_tables.proofs.GroupLemmas.{is_filled, inside_alike, filled_by}
 
 -- ---- one object
 
@@ -88,32 +88,7 @@ added_there i grouping (r ∷ rest) xs o =
     twice None = refl
     twice (Some y) = refl
 
--- ---- groups
-
-abbrev is_filled : List Units → Bool
-is_filled [] = false
-is_filled (n ∷ ns) = true
-
-inside_alike : (paths : List (List Units)) (g : Option ℕ) → is_inside (map is_filled paths) g ≡ is_filled (path_at paths g)
-inside_alike paths None = refl
-inside_alike paths (Some k) = at paths k
-  where
-    at : (paths : List (List Units)) (k : ℕ) → unwrap_or (slice_get (map is_filled paths) k) false ≡ is_filled (unwrap_or (slice_get paths k) [])
-    at [] k = refl
-    at (x ∷ paths) zero = refl
-    at (x ∷ paths) (suc k) = at paths k
-
-filled_by : (before : List Units) (x : Member) → is_filled (before ++ added_by x) ≡ (is_filled before || is_group x)
-filled_by (n ∷ ns) x = refl
-filled_by [] (m.Group path) = refl
-filled_by [] (m.Id w n at) = refl
-filled_by [] _ = refl
-
 -- ---- what one row adds
-
-abbrev cells_of_members : List WrittenMember → ℕ
-cells_of_members [] = 0
-cells_of_members (x ∷ rest) = cells_of_member x + cells_of_members rest
 
 abbrev view : Program → ℕ → ℕ → Option Declared → Option NameMeaning
 view p u o x = option_map (meant p) (option_map (meaning_of u o) x)

@@ -3,7 +3,8 @@ pub mod WalkLemmas
 pub mod RowLemmas
 pub mod NameLemmas
 pub mod MeaningLemmas
+pub mod GroupLemmas
 mod DeclaredLemmas
-mod TreeLemmas
+pub mod TreeLemmas
 pub mod TypeLemmas
 pub mod DefaultLemmas

@@ -9,17 +9,15 @@ use Rattle.qml_base.specs.declared.numbers.UnitNo.{UnitNo}
 use Rattle.std.proofs.lemmas.List.{map-append}
 use Rattle.program_tables.specs.declared.built_in.BuiltInName.{BuiltInName}
 use Rattle.std.specs.List.{flat_map}
-use Rattle.qml_base.specs.declared.numbers.Place.{Place}
 use Rattle.qml_syntax.specs.Tree.{Units}
 use Rattle.qml_types.specs.declared.kind.TypeNo.{TypeNo}
 use Rattle.qml_types.specs.declared.kind.TypeNo.TheVariants as no
 use Rattle.qml_types.specs.declared.kind.TypeRef.{TypeRef}
 use Rattle.qml_types.specs.declared.kind.TypeRef.TheVariants.{Builtin, Document as OfDocument}
 use Rattle.qml_types.specs.Table.{cells_of, own_cells, lineage}
-use Rattle.program_names.specs.Names.{changed}
-use Rattle.program_names.specs.Written.{WrittenMember, a_property, an_alias, a_signal, a_function}
-use Rattle.program_names.specs.Loaded.{Program, object_at, type_of_object, kind_named}
-use Rattle.program_names.specs.Layers.{Layer, of_type, of_object, Named, NameMeaning, a_cell, a_signal_of, a_function_of, an_alias_of, names_of_type, access_of, cells_of_layer, names, own_names, meaning_in, meaning}
+use Rattle.program_names.specs.Written.{WrittenMember, a_property}
+use Rattle.program_names.specs.Loaded.{Program, object_at, type_of_object}
+use Rattle.program_names.specs.Layers.{Layer, of_type, of_object, Named, NameMeaning, a_cell, names_of_type, cells_of_layer, names, own_names, meaning_in, meaning, names_of_member, cells_of_member, names_of_members, names_of_layer}
 use Rattle.program_tables.specs.declared.names.Declared.{Declared}
 use Rattle.program_tables.specs.declared.names.Declared.TheVariants as d
 use Rattle.program_tables.specs.declared.names.Meaning.{Meaning}
@@ -32,29 +30,6 @@ use Rattle.program_tables.specs.Stands.{meant, is_there, Stands}
 use Rattle.program_tables.proofs.NameLemmas.{in_both, built_in_means}
 
 -- ---- the definitions of names layer by layer, by the words that they are made of
-
-abbrev named : Units → Place → NameMeaning → Named
-named name at what = record { name = name; at = at; what = what }
-
-abbrev pub names_of_member : Program → ℕ → ℕ → ℕ → WrittenMember → List Named
-names_of_member p u o place (a_property q a k n at v) =
-    named n at (a_cell place (kind_named p u k) (access_of a)) ∷ named (changed n) at (a_signal_of []) ∷ []
-names_of_member p u o place (an_alias q def n at target t) = named n at (an_alias_of u o target) ∷ []
-names_of_member p u o place (a_signal q n at names) = named n at (a_signal_of names) ∷ []
-names_of_member p u o place (a_function q f n at) = named n at (a_function_of u o f) ∷ []
-names_of_member p u o place _ = []
-
-abbrev pub cells_of_member : WrittenMember → ℕ
-cells_of_member (a_property q a k n at v) = 1
-cells_of_member _ = 0
-
-abbrev pub names_of_members : Program → ℕ → ℕ → ℕ → List WrittenMember → List Named
-names_of_members p u o place [] = []
-names_of_members p u o place (x ∷ rest) = names_of_member p u o place x ++ names_of_members p u o (place + cells_of_member x) rest
-
-abbrev names_of_layer : Program → ℕ → Layer → List Named
-names_of_layer p place (of_type t) = names_of_type t
-names_of_layer p place (of_object u o) = names_of_members p u o place (object_at p u o).members
 
 abbrev names_from : Program → ℕ → List Layer → List Named
 names_from p place [] = []

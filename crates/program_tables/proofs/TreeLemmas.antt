@@ -15,7 +15,7 @@ use Rattle.document_rows.specs.WholePaths.{names_added, path_at, member_of, rows
 use Rattle.document_rows.specs.WrittenObjects.{members_of_object, members_at}
 use Rattle.document_rows.proofs.PathLemmas.{whole_paths}
 use Rattle.document_rows.proofs.OwnedLemmas.{members_by_rows}
-use Rattle.document_members.specs.Members.{written_in, added_by, Says, ReadsAll}
+use Rattle.document_members.specs.Members.{written_in, added_by, Says, ReadsMembers}
 use Rattle.program_tables.specs.declared.building.UnitRow.{UnitRow}
 use Rattle.program_tables.specs.declared.names.UnitNames.{UnitNames}
 use Rattle.program_tables.specs.Building.{nothing_declared, rows_added}
@@ -23,7 +23,7 @@ use Rattle.program_tables.specs.RowsSay.{SaysKinds, RowsSay, UnitSays, row_of, m
 
 -- ---- each entry is a member's
 
-abbrev AreMembers : List MemberEntry → Type 0
+abbrev pub AreMembers : List MemberEntry → Type 0
 AreMembers [] = Unit {0}
 AreMembers (e ∷ es) = ((x : AMember) × (e.part ≡ of_member x false)) × AreMembers es
 
@@ -32,7 +32,7 @@ both [] fs h g = g
 both (e ∷ es) fs h g = (h.0, both es fs h.1 g)
 
 mutual
-  in_object : (n k : ℕ) (o : Object) → AreMembers (members_with n k o)
+  pub in_object : (n k : ℕ) (o : Object) → AreMembers (members_with n k o)
   in_object n k (object t ms) = in_members n None (suc n) k ms
 
   in_members : (o : ℕ) (g : Option ℕ) (n k : ℕ) (ms : Members) → AreMembers (members_of o g n k ms)
@@ -67,7 +67,7 @@ one_row : (p : Program) (u : ℕ) (t : Table) (before : List Units) (r : UnitRow
     → written_in t before r.row.first r.member ≡ member_of before r.row.first (part_at t r.row.node)
 one_row p u t before r x e s = s.same before r.row.first ∙ ap (member_of before r.row.first) (sym e)
 
-row_after_row : (p : Program) (u : ℕ) (t : Table) (paths : List (List Units)) (rows : List UnitRow) → AreMembers (map (member_entry t) (map row_of rows)) → ReadsAll t (map row_of rows) (map member_of_row rows)
+pub row_after_row : (p : Program) (u : ℕ) (t : Table) (paths : List (List Units)) (rows : List UnitRow) → AreMembers (map (member_entry t) (map row_of rows)) → ReadsMembers t (map row_of rows) (map member_of_row rows)
     → SaysKinds p u t rows → RowsSay p u t paths rows (rows_behind paths (map (member_entry t) (map row_of rows)))
 row_after_row p u t paths [] m r k = tt
 row_after_row p u t paths (x ∷ rows) m r k =
@@ -78,7 +78,7 @@ row_after_row p u t paths (x ∷ rows) m r k =
           (says.adds ∙ ap names_added (sym m.0.1)) (row_after_row p u t (paths ++ (before ++ added_by x.member) ∷ []) rows m.1 r.1 k.1),
     )
 
-members_there : (ws : List WrittenObject) (o : ℕ) → (unwrap_or (slice_get ws o) no_object).members ≡ members_at ws o
+pub members_there : (ws : List WrittenObject) (o : ℕ) → (unwrap_or (slice_get ws o) no_object).members ≡ members_at ws o
 members_there ws o = by_object (slice_get ws o)
   where
     by_object : (y : Option WrittenObject) → (unwrap_or y no_object).members ≡ unwrap_or (option_map (λ w. w.members) y) []
@@ -87,7 +87,7 @@ members_there ws o = by_object (slice_get ws o)
 
 pub tree_says : (p : Program) (u : ℕ) (file : File) (t : Table) (objects : List ObjectRow) (rows : List UnitRow) (bases : List TypeRef) (unit : UnitNames)
     → (a : AreRows t objects (map row_of rows)) → unit_at p u ≡ unit_of file (is_document (document a.imports a.root))
-    → ReadsAll t (map row_of rows) (map member_of_row rows) → SaysKinds p u t rows → unit.objects.items ≡ rows_added 0 [] rows (map nothing_declared bases)
+    → ReadsMembers t (map row_of rows) (map member_of_row rows) → SaysKinds p u t rows → unit.objects.items ≡ rows_added 0 [] rows (map nothing_declared bases)
     → ((o : ℕ) (b : TypeRef) → slice_get bases o ≡ Some b → b ≡ type_of_object p u o) → UnitSays p u unit
 tree_says p u file t objects rows bases unit a e r k b types =
     let all : rows_behind [] (map (member_entry t) (map row_of rows)) ≡ (unit_at p u).rows =

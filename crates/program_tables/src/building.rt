@@ -56,7 +56,7 @@ fn nothing(alloc: Global, bases: &[TypeRef]) -> Result<Vec<ObjectNames>, NoMemor
 }
 
 /// Whether a row stands in a group, where `grouping` says of each row before it whether what is in it does.
-fn is_inside(grouping: &[bool], group: Option<usize>) -> bool
+pub fn is_inside(grouping: &[bool], group: Option<usize>) -> bool
     ensures { result ≡ s.is_inside grouping.now group }
 {
     match group {
@@ -68,7 +68,8 @@ fn is_inside(grouping: &[bool], group: Option<usize>) -> bool
     }
 }
 
-fn is_group(member: &Member) -> bool
+/// Whether a member is a group: what is in it stands in one.
+pub fn is_group(member: &Member) -> bool
     ensures { result ≡ s.is_group member.now }
 {
     match member {

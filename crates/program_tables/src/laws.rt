@@ -11,7 +11,7 @@ ghost use Rattle.program_names.specs.Reading.{File, is_document};
 ghost use Rattle.program_names.specs.Loaded.{Program, unit_of, unit_at, type_of_object};
 ghost use Rattle.document_rows.specs.declared.rows.ObjectRow as o;
 ghost use Rattle.document_rows.specs.Entries.{AreRows};
-ghost use Rattle.document_members.specs.Members.{ReadsAll};
+ghost use Rattle.document_members.specs.Members.{ReadsMembers};
 ghost use Rattle.program_tables.specs.declared.building.UnitRow as r;
 ghost use Rattle.program_tables.specs.Building.{nothing_declared, rows_added};
 ghost use Rattle.program_names.specs.Layers.{meaning as meaning_in_program, is_a, no_default, default_of};
@@ -46,7 +46,7 @@ pub fn rows_of_a_tree_say_its_document()
     ensures { (p : Program) (d : ℕ) (file : File) (t : Table) (objects : List o.ObjectRow) (rows : List r.UnitRow)
         (bases : List TypeRef) (unit : a.UnitNames) → (all : AreRows t objects (map row_of rows)) →
         unit_at p d ≡ unit_of file (is_document (document all.imports all.root)) →
-        ReadsAll t (map row_of rows) (map member_of_row rows) → SaysKinds p d t rows →
+        ReadsMembers t (map row_of rows) (map member_of_row rows) → SaysKinds p d t rows →
         unit.objects.items ≡ rows_added 0 [] rows (map nothing_declared bases) →
         ((o : ℕ) (b : TypeRef) → slice_get bases o ≡ Some b → b ≡ type_of_object p d o) → UnitSays p d unit }
 {}

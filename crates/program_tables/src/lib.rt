@@ -13,7 +13,7 @@ mod tests;
 mod types;
 mod walking;
 
-pub use building::{UnitRow, unit_names};
+pub use building::{UnitRow, is_group, is_inside, unit_names};
 pub use built_in::{BuiltInName, BuiltInNames};
 pub use laws::{
     defaults_are_as_in_the_program, names_mean_as_in_the_program, rows_of_a_tree_say_its_document,

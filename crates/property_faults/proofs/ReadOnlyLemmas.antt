@@ -22,11 +22,11 @@ use Rattle.load_faults.specs.Properties.{may_be_given, read_only_by, read_only_v
 use Rattle.program_tables.specs.declared.building.UnitRow.{UnitRow}
 use Rattle.program_tables.specs.Building.{is_group, is_inside}
 use Rattle.program_tables.specs.RowsSay.{RowsSay}
+use Rattle.program_tables.proofs.GroupLemmas.{is_filled, inside_alike, filled_by}
 use Rattle.document_tables.specs.declared.program.DocumentTable.{DocumentTable}
 use Rattle.document_tables.specs.declared.program.ProgramTables.{ProgramTables}
 use Rattle.document_tables.specs.Groups.{insides}
 use Rattle.document_tables.specs.Tables.{TellProgram, tree_in}
-use Rattle.document_tables.proofs.ThereLemmas.{is_filled, inside_alike, filled_by}
 use Rattle.written_order.specs.InOrder.{HasMembers, ToldAlike, faults_written}
 use Rattle.property_faults.specs.declared.given.GivenFor.{GivenFor}
 use Rattle.property_faults.specs.Given.{for_meaning, for_purpose, for_child, given_for, AllGiven}

@@ -1,5 +1,5 @@
 -- Row after row.
-use Rattle.std.proofs.Common.{◌≡◌, ◌∙◌, ap, sym, refl, ℕ, zero, suc, ◌+◌, ◌<◌, ◌≤◌, Bool, false, List, [], ◌∷◌, ◌++◌, length, get_or, drop, add-one, drop-cons, Option}
+use Rattle.std.proofs.Common.{◌≡◌, ◌∙◌, ap, sym, refl, ℕ, suc, ◌+◌, ◌<◌, ◌≤◌, Bool, false, List, [], ◌∷◌, ◌++◌, length, get_or, drop, add-one, drop-cons, Option}
 use Rattle.std.specs.Prelude.{slice_get}
 use Rattle.std.specs.Option.{unwrap_or}
 use Rattle.std.proofs.lemmas.List.{drop_all}
@@ -10,14 +10,7 @@ use Rattle.program_tables.specs.declared.building.UnitRow.{UnitRow}
 use Rattle.property_faults.specs.declared.given.GivenFor.{GivenFor}
 use Rattle.property_faults.specs.declared.given.GivenFor.TheVariants as g
 use Rattle.property_faults.specs.Unknown.{by_rows}
-
-abbrev first_or : {X : Type 0} → X → List X → X
-first_or d [] = d
-first_or d (b ∷ bs) = b
-
-abbrev behind : {X : Type 0} → List X → List X
-behind [] = []
-behind (b ∷ bs) = bs
+use Rattle.document_tables.proofs.BesideLemmas.{first_or, behind, first_at, behind_at}
 
 by_first : (f : Bool → UnitRow → GivenFor → Faults) (r : UnitRow) (rest : List UnitRow) (bs : List Bool) (xs : List GivenFor)
     → by_rows f (r ∷ rest) bs xs ≡ f (first_or false bs) r (first_or g.Nothing xs) ++ by_rows f rest (behind bs) (behind xs)
@@ -25,18 +18,6 @@ by_first f r rest [] [] = refl
 by_first f r rest [] (x ∷ xs) = refl
 by_first f r rest (b ∷ bs) [] = refl
 by_first f r rest (b ∷ bs) (x ∷ xs) = refl
-
-first_at : {X : Type 0} (d : X) (bs : List X) (i : ℕ) → first_or d (drop i bs) ≡ unwrap_or (slice_get bs i) d
-first_at d [] zero = refl
-first_at d [] (suc i) = refl
-first_at d (b ∷ bs) zero = refl
-first_at d (b ∷ bs) (suc i) = first_at d bs i
-
-behind_at : {X : Type 0} (bs : List X) (i : ℕ) → behind (drop i bs) ≡ drop (suc i) bs
-behind_at [] zero = refl
-behind_at [] (suc i) = refl
-behind_at (b ∷ bs) zero = refl
-behind_at (b ∷ bs) (suc i) = behind_at bs i
 
 pub go_on : (f : Bool → UnitRow → GivenFor → Faults) (rows : List UnitRow) (inside : List Bool) (given : List GivenFor) (i : ℕ) (d : UnitRow) (b : Bool) (x : GivenFor) (kept more all : Option Fault)
     → i < length rows → b ≡ unwrap_or (slice_get inside i) false → x ≡ unwrap_or (slice_get given i) g.Nothing → more ≡ first_from kept (f b (get_or rows i d) x)

@@ -13,29 +13,29 @@ use Rattle.qml_types.specs.declared.kind.TypeNo.TheVariants as no
 use Rattle.qml_types.specs.declared.kind.TypeRef.{TypeRef}
 use Rattle.qml_types.specs.declared.kind.TypeRef.TheVariants.{Builtin}
 use Rattle.program_names.specs.declared.fault.Fault.{Fault}
-use Rattle.program_names.specs.Written.{WrittenMember, WrittenValue, an_id, a_property, an_alias, a_signal, a_function, a_value, a_group, a_child, a_stray, OwnedMember}
+use Rattle.program_names.specs.Written.{WrittenMember, WrittenValue, a_value, OwnedMember}
 use Rattle.program_names.specs.Loaded.{Program, unit_at}
 use Rattle.program_names.specs.Layers.{DefaultProperty, no_default, to_property, to_children, to_component, to_rows, default_of, is_type, is_a}
 use Rattle.program_names.specs.Components.{Roots}
 use Rattle.program_names.specs.PathMeanings.{here, PathMeaning, a_property_of, an_object_of, a_handler, children_of, no_meaning, without_target, meaning_of_path}
-use Rattle.program_names.specs.ComponentRoots.{meaning_given}
 use Rattle.document_rows.specs.WholePaths.{path_at}
 use Rattle.document_members.specs.declared.member.Member.{Member}
 use Rattle.document_members.specs.declared.member.Member.TheVariants as m
 use Rattle.document_members.specs.Members.{written_in, added_by}
-use Rattle.load_faults.specs.Faults.{Faults, fault_at, first_from, each_member, Purpose, for_role, as_attached, for_target, by_path, purpose_of}
-use Rattle.load_faults.specs.Properties.{unknown_properties}
+use Rattle.load_faults.specs.Faults.{Faults, fault_at, first_from, each_member, Purpose, for_role, as_attached, for_target, by_path}
+use Rattle.load_faults.specs.Properties.{unknown_properties, unknown_value, unknown_group, unknown_default, unknown_child, unknown_member, unknown_in_row}
 use Rattle.program_tables.specs.declared.building.UnitRow.{UnitRow}
 use Rattle.program_tables.specs.declared.names.UnitNames.{UnitNames}
 use Rattle.program_tables.specs.Building.{is_group, is_inside}
 use Rattle.program_tables.specs.RowsSay.{RowsSay}
 use Rattle.program_tables.specs.Stands.{Stands, is_there}
 use Rattle.program_tables.specs.Types.{any_of, base_in}
+use Rattle.program_tables.proofs.GroupLemmas.{is_filled, inside_alike, filled_by}
 use Rattle.document_tables.specs.declared.program.DocumentTable.{DocumentTable}
 use Rattle.document_tables.specs.declared.program.ProgramTables.{ProgramTables}
 use Rattle.document_tables.specs.Groups.{insides}
 use Rattle.document_tables.specs.Tables.{TellProgram, tree_in}
-use Rattle.document_tables.proofs.ThereLemmas.{is_filled, inside_alike, filled_by, AllThere, rows_there}
+use Rattle.document_tables.proofs.ThereLemmas.{AllThere, rows_there}
 use Rattle.written_order.specs.InOrder.{HasMembers, ToldAlike, faults_written}
 use Rattle.property_faults.specs.declared.given.GivenFor.{GivenFor}
 use Rattle.property_faults.specs.Given.{for_meaning, for_purpose, for_child, given_for, AllGiven}
@@ -44,49 +44,6 @@ use Rattle.property_faults.specs.Unknown.{is_nothing, is_group_of, takes_child, 
 use Rattle.property_faults.proofs.PlaceLemmas.{object_said}
 
 -- ---- the definition, by the words that it is made of
-
-abbrev unknown_meaning : Place → PathMeaning → Faults
-unknown_meaning at no_meaning = fault_at at cause.UnknownProperty
-unknown_meaning at _ = []
-
-abbrev unknown_value : Place → Purpose → Faults
-unknown_value at (by_path s) = unknown_meaning at s
-unknown_value at _ = []
-
-abbrev unknown_group : Place → PathMeaning → Faults
-unknown_group at (an_object_of s) = []
-unknown_group at without_target = []
-unknown_group at _ = fault_at at cause.UnknownProperty
-
-abbrev unknown_default : Place → PathMeaning → Faults
-unknown_default at (a_property_of way place k a own) = []
-unknown_default at (an_object_of s) = []
-unknown_default at without_target = []
-unknown_default at _ = fault_at at cause.UnknownProperty
-
-abbrev unknown_child : Program → Roots → ℕ → ℕ → Place → DefaultProperty → Faults
-unknown_child p roots d o at no_default = fault_at at cause.UnknownProperty
-unknown_child p roots d o at (to_property n) = unknown_default at (meaning_of_path p roots (here d o) (n ∷ []))
-unknown_child p roots d o at _ = []
-
-abbrev unknown_member : Program → Roots → ℕ → ℕ → WrittenMember → Faults
-unknown_member p roots d o (a_value at path v) = unknown_value at (purpose_of p roots d o path)
-unknown_member p roots d o (a_group at path) = unknown_group at (meaning_given p roots d o path)
-unknown_member p roots d o (a_child at n) = unknown_child p roots d o at (default_of p d o)
-unknown_member p roots d o (a_stray at) = fault_at at cause.UnknownProperty
-unknown_member p roots d o _ = []
-
-abbrev unknown_in_row : WrittenMember → Faults
-unknown_in_row (an_id at n q) = fault_at at cause.UnknownProperty
-unknown_in_row (a_property at a k n q v) = fault_at at cause.UnknownProperty
-unknown_in_row (an_alias at def n q target t) = fault_at at cause.UnknownProperty
-unknown_in_row (a_signal at n q names) = fault_at at cause.UnknownProperty
-unknown_in_row (a_function at f n q) = fault_at at cause.UnknownProperty
-unknown_in_row (a_value at (n ∷ []) v) = []
-unknown_in_row (a_value at path v) = fault_at at cause.UnknownProperty
-unknown_in_row (a_group at path) = fault_at at cause.UnknownProperty
-unknown_in_row (a_child at n) = fault_at at cause.UnknownProperty
-unknown_in_row (a_stray at) = fault_at at cause.UnknownProperty
 
 abbrev unknown_here : Program → Roots → ℕ → ℕ → WrittenMember → Faults
 unknown_here p roots d o x = if is_type p d o no.ListElement then unknown_in_row x else unknown_member p roots d o x

@@ -13,9 +13,9 @@ ghost use Rattle.property_faults.specs.Given.{AllGiven};
 
 use crate::given::GivenFor;
 use crate::places::object_place;
-use crate::unknown::{given_at, is_inside, place_if, table_at};
+use crate::unknown::{given_at, place_if};
 use document_members::Member;
-use document_tables::ProgramTables;
+use document_tables::{ProgramTables, in_group, table_at};
 use load_passes::Best;
 use program_names::Fault;
 use program_tables::UnitRow;
@@ -92,7 +92,7 @@ fn tell_rows(tree: &Tree, rows: &[UnitRow], inside: &[bool], given: &[GivenFor],
     'rows: for (number, row) in rows.iter().enumerate() {
         tell_row(
             tree,
-            is_inside(inside, number),
+            in_group(inside, number),
             row,
             given_at(given, number),
             best,

@@ -1,6 +1,6 @@
 //! UnknownProperty.
 
-ghost use Rattle.std.specs.Prelude.{◌≡◌, option_copied, slice_get, false, Some};
+ghost use Rattle.std.specs.Prelude.{◌≡◌, slice_get, Some};
 ghost use Rattle.std.specs.Option.{unwrap_or};
 ghost use Rattle.program_names.specs.Loaded.{Program, unit_at};
 ghost use Rattle.program_names.specs.Components.{Roots};
@@ -15,7 +15,7 @@ ghost use Rattle.property_faults.specs.Given.{AllGiven};
 use crate::given::GivenFor;
 use crate::places::{first_place, object_place, place_in_group};
 use document_members::Member;
-use document_tables::{DocumentTable, ProgramTables};
+use document_tables::{ProgramTables, in_group, table_at};
 use load_passes::Best;
 use program_names::Fault;
 use program_tables::{Names, UnitRow, types_are_as_in_the_program};
@@ -172,16 +172,6 @@ fn tell_row(
     tell_at(unknown_at(tree, element, inside, &row.member, given), best);
 }
 
-/// Whether the row of a number stands in a group.
-pub(crate) fn is_inside(inside: &[bool], number: usize) -> bool
-    ensures { result ≡ unwrap_or (slice_get inside.now number) false }
-{
-    match inside.get(number) {
-        Some(inside) => *inside,
-        None => false,
-    }
-}
-
 /// What the member of a row is given for.
 pub(crate) fn given_at(given: &[GivenFor], number: usize) -> GivenFor
     ensures { result ≡ unwrap_or (slice_get given.now number) Nothing }
@@ -211,19 +201,12 @@ fn tell_rows(
             names,
             document,
             tree,
-            is_inside(inside, number),
+            in_group(inside, number),
             row,
             given_at(given, number),
             best,
         );
     }
-}
-
-/// The table of the document of a number.
-pub(crate) fn table_at(documents: &[DocumentTable], document: usize) -> Option<&DocumentTable>
-    ensures { option_copied result ≡ slice_get documents.now document }
-{
-    documents.get(document)
 }
 
 /// Tells, of the document of a number, each name, handler, group and child object for which the object has nothing, and what may not

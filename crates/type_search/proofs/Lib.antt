@@ -1,2 +1,3 @@
 pub mod SearchLemmas
 mod OfferLemmas
+pub mod KeepsLemmas

@@ -1,5 +1,5 @@
 -- Names with a character past 127 are those of no basic kind.
-use Rattle.std.proofs.Common.{◌≡◌, ◌∙◌, ap, sym, refl, ℕ, Bool, true, false, ◌&&◌, if◌then◌else◌, List, [], ◌∷◌, Some, None, is_some}
+use Rattle.std.proofs.Common.{◌≡◌, ◌∙◌, ap, sym, refl, ℕ, Bool, true, false, ◌&&◌, if◌then◌else◌, List, [], ◌∷◌, Option, Some, None, is_some}
 use Rattle.std.specs.Prelude.{codes}
 use Rattle.std.specs.Bool.{Decides}
 use Rattle.std.specs.Str.{bytes_eq}
@@ -43,5 +43,8 @@ basic_kinds =
     (codes "var", kind.Var) ∷
     (codes "variant", kind.Variant) ∷ []
 
+pub none_of_basic_kinds : (name : List ℕ) → is_ascii name ≡ false → Path (Option PropKind) None (basic_kind name)
+none_of_basic_kinds name e = sym (not_there basic_kinds name refl e)
+
 pub no_basic_kind : (name : List ℕ) → is_ascii name ≡ false → false ≡ is_some (basic_kind name)
-no_basic_kind name e = sym (ap is_some (not_there basic_kinds name refl e))
+no_basic_kind name e = ap is_some (none_of_basic_kinds name e)

@@ -1,3 +1,3 @@
-mod BasicLemmas
+pub mod BasicLemmas
 pub mod PartLemmas
 pub mod MergeLemmas

@@ -11,10 +11,9 @@ use Rattle.qml_base.specs.declared.load_cause.LoadCause.TheVariants as cause
 use Rattle.qml_base.specs.declared.numbers.Place.{Place}
 use Rattle.qml_syntax.specs.Tree.{Units}
 use Rattle.qml_types.specs.declared.kind.TypeNo.TheVariants as no
-use Rattle.program_names.specs.Names.{changed}
-use Rattle.program_names.specs.Written.{WrittenObject, WrittenMember, a_property, an_alias, a_signal, a_function}
-use Rattle.program_names.specs.Loaded.{Program, unit_at, object_at, no_object, kind_named}
-use Rattle.program_names.specs.Layers.{Named, NameMeaning, a_cell, a_signal_of, a_function_of, an_alias_of, access_of, own_names, is_type}
+use Rattle.program_names.specs.Written.{WrittenObject, WrittenMember, a_property}
+use Rattle.program_names.specs.Loaded.{Program, unit_at, object_at, no_object}
+use Rattle.program_names.specs.Layers.{own_names, is_type, names_of_member, cells_of_member, names_of_members}
 use Rattle.load_faults.specs.Faults.{Faults, first_from, fault_if}
 use Rattle.load_faults.specs.Duplicates.{declared_twice, second_ids, roles_twice}
 use Rattle.load_passes.specs.declared.repeated.NameRow.{NameRow}
@@ -114,25 +113,6 @@ own_declared : (p : Program) (d : ℕ) → Owned owner_of (declared_rows p d)
 own_declared p d o m = own_names_declared p d o (names_declared m)
 
 -- the definition of an object's own names, by the words that it is made of
-
-abbrev named : Units → Place → NameMeaning → Named
-named name at what = record { name = name; at = at; what = what }
-
-abbrev names_of_member : Program → ℕ → ℕ → ℕ → WrittenMember → List Named
-names_of_member p d o place (a_property q a k n at v) =
-    named n at (a_cell place (kind_named p d k) (access_of a)) ∷ named (changed n) at (a_signal_of []) ∷ []
-names_of_member p d o place (an_alias q def n at target t) = named n at (an_alias_of d o target) ∷ []
-names_of_member p d o place (a_signal q n at names) = named n at (a_signal_of names) ∷ []
-names_of_member p d o place (a_function q f n at) = named n at (a_function_of d o f) ∷ []
-names_of_member p d o place _ = []
-
-abbrev cells_of_member : WrittenMember → ℕ
-cells_of_member (a_property q a k n at v) = 1
-cells_of_member _ = 0
-
-abbrev names_of_members : Program → ℕ → ℕ → ℕ → List WrittenMember → List Named
-names_of_members p d o place [] = []
-names_of_members p d o place (m ∷ rest) = names_of_member p d o place m ++ names_of_members p d o (place + cells_of_member m) rest
 
 own_names_so : (p : Program) (d o : ℕ) → own_names p d o ≡ names_of_members p d o 0 (object_at p d o).members
 own_names_so p d o = refl

@@ -2,23 +2,16 @@ use Rattle.std.proofs.Common.{◌∙◌, ◌≤◌, sym, subst}
 use Rattle.read_order.specs.Order.{file_of}
 use Rattle.document_tables.proofs.ProgramLemmas.{pushed, tables_step, tables_end}
 use Rattle.document_tables.proofs.program.file_tables.Goals as goal
+use Rattle.type_search.proofs.KeepsLemmas.{keeps_on}
 
 pub returns-then-is_err-clause-steady : goal.returns-then-is_err-clause-steady
 returns-then-is_err-clause-steady g c = λ sources h. c.files.invariant.knows sources (c.in-Ok.ensures.steady sources h)
 
 pub returns-then-is_err-clause-real : goal.returns-then-is_err-clause-real
-returns-then-is_err-clause-real g c = record {
-  told = c.in-Ok.ensures.real.told ∙ c.files.invariant.real.told;
-  allowed = λ folder e sources of before.
-      c.in-Ok.ensures.real.allowed folder (e ∙ sym c.files.invariant.real.told) sources of (c.files.invariant.real.allowed folder e sources of before);
-}
+returns-then-is_err-clause-real g c = keeps_on c.files.invariant.real c.in-Ok.ensures.real
 
 pub returns-in-Err-clause-real : goal.returns-in-Err-clause-real
-returns-in-Err-clause-real g c = record {
-  told = c.in-Err.ensures.real.told ∙ c.files.invariant.real.told;
-  allowed = λ folder e sources of before.
-      c.in-Err.ensures.real.allowed folder (e ∙ sym c.files.invariant.real.told) sources of (c.files.invariant.real.allowed folder e sources of before);
-}
+returns-in-Err-clause-real g c = keeps_on c.files.invariant.real c.in-Err.ensures.real
 
 pub files-preserved : goal.files-preserved
 files-preserved g c = record {
@@ -29,11 +22,7 @@ files-preserved g c = record {
       (pushed c.push_table.result _ c.push_table.ensures (sym c.is_err.ensures.value ∙ c.if-is_err.false)).1
       (c.files.invariant.whole sources (c.in-Ok.ensures.steady sources h));
   knows = λ sources h. c.files.invariant.knows sources (c.in-Ok.ensures.steady sources h);
-  real = record {
-    told = c.in-Ok.ensures.real.told ∙ c.files.invariant.real.told;
-    allowed = λ folder e sources of before.
-        c.in-Ok.ensures.real.allowed folder (e ∙ sym c.files.invariant.real.told) sources of (c.files.invariant.real.allowed folder e sources of before);
-  };
+  real = keeps_on c.files.invariant.real c.in-Ok.ensures.real;
   count = c.in-Ok.ensures.cause.0 ∙ c.files.invariant.count;
   names = c.in-Ok.ensures.cause.1 ∙ c.files.invariant.names;
 }
