@@ -18,7 +18,7 @@ use Rattle.machine_steps.specs.declared.fault.Fault.TheVariants as fault
 use Rattle.machine_steps.specs.Giving.{Fails}
 use Rattle.machine_state.specs.declared.state.State.{State}
 use Rattle.machine_state.specs.Keeping.{machine_of}
-use Rattle.machine_writes.specs.Writes.{emitted}
+use Rattle.machine_writes.specs.Writes.{emitted, settle_older}
 use Rattle.machine_objects.specs.declared.making.Made.{Made}
 use Rattle.machine_objects.specs.Adding.{alone_instance, IsMade, AddsAlone}
 use Rattle.machine_objects.specs.Making.{start_one, complete_one, counted, left_of}
@@ -43,29 +43,29 @@ completions_same below n (x ∷ xs) m = then_same (complete_one below (object_no
 
 -- once all is added, and has settled
 pub goes_on : (below : Below) (planned : List Planned) (i : plans.Instance) (given : ℕ) (m added new : Machine) (cells : List CellNo)
-    → add_told None planned i given m ≡ goes tt added → (settle >>= older_after below given) added ≡ each (emit_change below) cells new
+    → add_told None planned i given m ≡ goes tt added → settle_older below given added ≡ each (emit_change below) cells new
     → made below None planned i given m
       ≡ (each (emit_change below) cells >> each (start_one below) (starting (suc given) (map looks_of i.objects)) >> each (complete_one below) (counted (suc given) (length i.objects))) new
 goes_on below planned i given m added new cells e f =
     let all = numbered_from (suc given) i.objects in
-    ap (λ r. then_go (then_go (then_go r (λ _. settle >>= older_after below given)) (λ _. each (start below) all)) (λ _. each (complete below) all)) e
+    ap (λ r. then_go (then_go (then_go r (λ _. settle_older below given)) (λ _. each (start below) all)) (λ _. each (complete below) all)) e
     ∙ ap (λ r. then_go (then_go r (λ _. each (start below) all)) (λ _. each (complete below) all)) f
     ∙ ap (λ r. then_go r (λ _. each (complete below) all)) (then_same (each (emit_change below) cells new) _ _ (λ a k. starts_same below (suc given) i.objects k))
     ∙ then_same _ _ _ (λ a k. completions_same below (suc given) i.objects k)
 
 stops_so : (below : Below) (planned : List Planned) (i : plans.Instance) (given : ℕ) (m added new : Machine) (s : Stop)
-    → add_told None planned i given m ≡ goes tt added → (settle >>= older_after below given) added ≡ stops s new
+    → add_told None planned i given m ≡ goes tt added → settle_older below given added ≡ stops s new
     → made below None planned i given m ≡ stops s new
 stops_so below planned i given m added new s e f =
     let all = numbered_from (suc given) i.objects in
-    ap (λ r. then_go (then_go (then_go r (λ _. settle >>= older_after below given)) (λ _. each (start below) all)) (λ _. each (complete below) all)) e
+    ap (λ r. then_go (then_go (then_go r (λ _. settle_older below given)) (λ _. each (start below) all)) (λ _. each (complete below) all)) e
     ∙ ap (λ r. then_go (then_go r (λ _. each (start below) all)) (λ _. each (complete below) all)) f
 
 -- ---- the whole
 
 pub made_alone : (below : Below) (u o : ℕ) (old mid : State) (new : Machine) (made : Made) (cells : List CellNo) (starts : List ObjNo)
     → IsMade u o old mid [] starts
-    → (settle >>= older_after below old.tree.given) (machine_of mid) ≡ each (emit_change below) cells new
+    → settle_older below old.tree.given (machine_of mid) ≡ each (emit_change below) cells new
     → made.changed.items ≡ cells → made.starting.items ≡ starts → made.before ≡ old.tree.given → made.now ≡ mid.tree.given
     → make_alone below u o (machine_of old) (machine_of old) ≡ left_of below made new
 made_alone below u o old mid new made cells starts h f e1 e2 e3 e4 =
@@ -81,7 +81,7 @@ made_alone below u o old mid new made cells starts h f e1 e2 e3 e4 =
     ∙ ap (λ n. (each (emit_change below) made.changed.items >> each (start_one below) made.starting.items >> each (complete_one below) (counted (suc made.before) n)) new) many
 
 pub unsettled : (below : Below) (u o : ℕ) (old mid : State) (new : Machine) (f : Fault) (before starts : List ObjNo)
-    → IsMade u o old mid before starts → Fails f new ((settle >>= older_after below old.tree.given) (machine_of mid))
+    → IsMade u o old mid before starts → Fails f new (settle_older below old.tree.given (machine_of mid))
     → Fails f new (make_alone below u o (machine_of old) (machine_of old))
 unsettled below u o old mid new fault.NoMemory before starts h e = tt
 unsettled below u o old mid new (fault.Stopped s) before starts h e =

@@ -1,5 +1,5 @@
 -- A settling that is told, and a write.
-use Rattle.std.proofs.Common.{◌≡◌, ◌∙◌, ap, sym, refl, nat_le, List, [], ◌∷◌, Result, Ok, Err}
+use Rattle.std.proofs.Common.{◌≡◌, ◌∙◌, ap, sym, refl, ℕ, nat_le, List, [], ◌∷◌, Result, Ok, Err}
 use Rattle.std.specs.List.{filter}
 use Rattle.qml_base.specs.declared.numbers.CellNo.{CellNo}
 use Rattle.qml_base.specs.declared.numbers.ExprNo.{ExprNo}
@@ -21,7 +21,7 @@ use Rattle.machine_steps.specs.Giving.{Gives, Fails}
 use Rattle.machine_steps.specs.Settles.{settled_from, SettlesAs}
 use Rattle.machine_steps.specs.Telling.{TellsSettled}
 use Rattle.machine_state.specs.Leading.{Leads}
-use Rattle.machine_writes.specs.Writes.{emitted}
+use Rattle.machine_writes.specs.Writes.{emitted, settle_older}
 
 -- where it settles, and that is told
 pub settled_on : (m : Machine) (live : Live) (c : Changed) (told : List Entry) (below : Below)
@@ -49,13 +49,13 @@ pub settled_older : (m : Machine) (live : Live) (all c : Changed) (given : ℕ) 
     → settle m ≡ goes (settled_from live all) (record m { tree = live.tree })
     → c.cells.items ≡ filter (λ (x : CellNo). nat_le x.object.0 given) all.cells.items → c.reports ≡ all.reports
     → tell_settled (settled_from live c) (record m { tree = live.tree }) ≡ goes tt (record m { tree = live.tree; trace = told })
-    → (settle >>= older_after below given) m ≡ emitted below c (record m { tree = live.tree; trace = told })
+    → settle_older below given m ≡ emitted below c (record m { tree = live.tree; trace = told })
 settled_older m live all c given told below e cells reports f =
     ap (λ r. then_go r (older_after below given)) e
     ∙ ap (λ cs. tell_older below (record { cells = live.tree.cells; changed = cs; reports = all.reports.items }) (record m { tree = live.tree })) (sym cells)
     ∙ ap (λ (rs : _). tell_older below (record { cells = live.tree.cells; changed = c.cells.items; reports = rs.items }) (record m { tree = live.tree })) (sym reports)
     ∙ ap (λ r. then_go r (λ _. each (emit_change below) c.cells.items)) f
 
-pub settled_older_off : (m n : Machine) (f : Fault) (given : ℕ) (below : Below) → Fails f n (settle m) → Fails f n ((settle >>= older_after below given) m)
+pub settled_older_off : (m n : Machine) (f : Fault) (given : ℕ) (below : Below) → Fails f n (settle m) → Fails f n (settle_older below given m)
 settled_older_off m n fault.NoMemory given below h = tt
 settled_older_off m n (fault.Stopped s) given below h = ap (λ r. then_go r (older_after below given)) h

@@ -6,12 +6,11 @@ ghost use Rattle.qml_base.specs.declared.numbers.CellNo.{CellNo as ACell};
 ghost use Rattle.qml_base.specs.declared.numbers.ExprNo.{ExprNo};
 ghost use Rattle.qml_base.specs.declared.names.Home.{Home};
 ghost use Rattle.evaluation.specs.Ask.{Ask};
-ghost use Rattle.machine_model.specs.Acts.{goes, each, ◌>>=◌};
-ghost use Rattle.machine_model.specs.Emission.{Below, put as put_it, write as written, settle as settle_it, settle_and_emit};
-ghost use Rattle.machine_model.specs.Making.{older_after};
+ghost use Rattle.machine_model.specs.Acts.{goes, each};
+ghost use Rattle.machine_model.specs.Emission.{Below, put as put_it, write as written, settle_and_emit};
 ghost use Rattle.machine_state.specs.Keeping.{machine_of, Ready};
 ghost use Rattle.machine_state.specs.Leading.{Leads};
-ghost use Rattle.machine_writes.specs.Writes.{emitted};
+ghost use Rattle.machine_writes.specs.Writes.{emitted, settle_older};
 
 use evaluation::Rules;
 use live_tree::Changed;
@@ -89,7 +88,7 @@ pub fn settle_and_tell_older<'a, L: Ledger, R: Rules<L>>(
     steps: &mut Steps<L>,
 ) -> Result<Changed, Fault>
     requires { Ready (R.asks rules.old) state.old }
-    ensures settles { (below : Below) → Leads ((settle_it >>= older_after below given) (machine_of state.old)) result (emitted below) (machine_of state.new) }
+    ensures settles { (below : Below) → Leads (settle_older below given (machine_of state.old)) result (emitted below) (machine_of state.new) }
     ensures ready { OnOk result (Ready (R.asks rules.old) state.new) }
     ensures same { R.asks rules.new ≡ R.asks rules.old }
 {
