@@ -47,7 +47,6 @@ fn put_all<'a>(state: &mut State<'a>, contents: Vec<(CellNo, Content)>)
 /// All cells settle at once, and that is told: the changes and then the reports. It answers the cells that hold another value, of
 /// which the signals are to be emitted in this order, or stops at the lowest cell past the limit of numbers, and then nothing is
 /// told. Without memory the machine may have changed in part.
-#[tactic(auto, using(crate::proofs::WriteLemmas::settled_on, crate::proofs::WriteLemmas::settled_off))]
 pub fn settle_and_tell<'a, L: Ledger, R: Rules<L>>(
     alloc: Global,
     state: &mut State<'a>,
@@ -59,7 +58,10 @@ pub fn settle_and_tell<'a, L: Ledger, R: Rules<L>>(
     ensures ready { OnOk result (Ready (R.asks rules.old) state.new) }
     ensures same { R.asks rules.new ≡ R.asks rules.old }
 {
-    let changed = settle(alloc, &mut state.tree, rules, steps)?;
+    let changed = match settle(alloc, &mut state.tree, rules, steps) {
+        Ok(changed) => changed,
+        Err(fault) => return Err(fault),
+    };
     match tell_settled(alloc, &state.tree, &changed, &mut state.trace) {
         Ok(()) => Ok(changed),
         Err(_) => Err(Fault::NoMemory),
@@ -79,7 +81,6 @@ fn older(changed: Changed, given: u32) -> Changed
 
 /// All cells settle at once, and that is told, but for the changes of objects with numbers above one: what new objects hold is no
 /// change. It answers the changes that were told, and stops as `settle_and_tell` does.
-#[tactic(auto, using(crate::proofs::WriteLemmas::settled_older, crate::proofs::WriteLemmas::settled_older_off))]
 pub fn settle_and_tell_older<'a, L: Ledger, R: Rules<L>>(
     alloc: Global,
     state: &mut State<'a>,
@@ -92,7 +93,10 @@ pub fn settle_and_tell_older<'a, L: Ledger, R: Rules<L>>(
     ensures ready { OnOk result (Ready (R.asks rules.old) state.new) }
     ensures same { R.asks rules.new ≡ R.asks rules.old }
 {
-    let all = settle(alloc, &mut state.tree, rules, steps)?;
+    let all = match settle(alloc, &mut state.tree, rules, steps) {
+        Ok(all) => all,
+        Err(fault) => return Err(fault),
+    };
     let changed = older(all, given);
     match tell_settled(alloc, &state.tree, &changed, &mut state.trace) {
         Ok(()) => Ok(changed),
@@ -103,7 +107,6 @@ pub fn settle_and_tell_older<'a, L: Ledger, R: Rules<L>>(
 /// Replaces the contents of cells, in this order; then all cells settle, and that is told: a write, of which only the signals of
 /// the changes are left to emit, in the order of the answer. It stops at the lowest cell past the limit of numbers, and then nothing
 /// of the settling is told. Where there is no such cell, nothing is put. Without memory the machine may have changed in part.
-#[tactic(auto, using(crate::proofs::WriteLemmas::written_on))]
 pub fn write<'a, L: Ledger, R: Rules<L>>(
     alloc: Global,
     state: &mut State<'a>,

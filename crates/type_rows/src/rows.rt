@@ -55,11 +55,7 @@ fn put_cells(alloc: Global, rows: &mut Rows<NameRow>, shown: &[Cell]) -> Result<
 }
 
 /// Puts methods.
-fn put_methods(
-    alloc: Global,
-    rows: &mut Rows<NameRow>,
-    methods: &[Method],
-) -> Result<(), NoMemory>
+fn put_methods(alloc: Global, rows: &mut Rows<NameRow>, methods: &[Method]) -> Result<(), NoMemory>
     ensures { OnOk result (rows.new ≡ rows.old ++ map s.row_of_method methods.now) }
 {
     'methods: for method in methods {
@@ -92,11 +88,7 @@ fn put_signal(alloc: Global, rows: &mut Rows<NameRow>, signal: &Signal) -> Resul
 }
 
 /// Puts signals.
-fn put_signals(
-    alloc: Global,
-    rows: &mut Rows<NameRow>,
-    signals: &[Signal],
-) -> Result<(), NoMemory>
+fn put_signals(alloc: Global, rows: &mut Rows<NameRow>, signals: &[Signal]) -> Result<(), NoMemory>
     ensures { OnOk result (rows.new ≡ rows.old ++ map s.row_of_signal (map signal_of signals.now)) }
 {
     'signals: for signal in signals {

@@ -45,11 +45,7 @@ impl Model for TypeRows {
 }
 
 /// Puts the rows of types.
-fn put_all(
-    alloc: Global,
-    all: &mut Vec<Rows<NameRow>>,
-    types: &[TypeNo],
-) -> Result<(), NoMemory>
+fn put_all(alloc: Global, all: &mut Vec<Rows<NameRow>>, types: &[TypeNo]) -> Result<(), NoMemory>
     ensures { OnOk result (all.new.items ≡ all.old.items ++ map type_rows types.now) }
 {
     'types: for of_type in types {
