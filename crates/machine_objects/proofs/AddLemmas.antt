@@ -1,7 +1,8 @@
 -- What was planned is added.
-use Rattle.std.proofs.Common.{◌≡◌, ◌∙◌, ap, sym, subst, refl, ℕ, suc, ◌+◌, ◌≤◌, ◌<◌, ◌⊎◌, inl, inr, List, [], ◌∷◌, ◌++◌, map, length, Option, Some, None, Result, Ok, Err, arith}
+use Rattle.std.proofs.Common.{◌≡◌, ◌∙◌, ap, sym, subst, refl, ℕ, suc, ◌+◌, ◌≤◌, ◌<◌, ◌⊎◌, inl, inr, List, [], ◌∷◌, ◌++◌, map, length, Option, Some, None, Result, Ok, Err, OnOk, arith}
 use Rattle.std.proofs.lemmas.List.{length-map}
 use Rattle.qml_base.specs.declared.numbers.ObjNo.{ObjNo}
+use Rattle.qml_base.specs.declared.memory.NoMemory.{NoMemory}
 use Rattle.qml_value.specs.declared.value.Value.{Value}
 use Rattle.qml_scope.specs.declared.shape.Shape.{Shape}
 use Rattle.qml_scope.specs.Shapes.{Known}
@@ -87,3 +88,11 @@ added_alone old new u o x before after p f =
       given = a.given;
       starts = a.starts;
     }
+
+pub added_if : (old new : State) (x : Instance) (i : plans.Instance) (before after : List ObjNo) (result : Result (Unit {0}) NoMemory)
+    → OnOk result (AddsAll None (map looks x.objects.items) x.shapes.items old.tree new.tree)
+    → OnOk result (TellsObjects old.tree.given (map looks x.objects.items) old.trace.items new.trace.items before after)
+    → new.written.items ≡ old.written.items ++ x.planned.items → new.units ≡ old.units → new.time ≡ old.time → new.turns ≡ old.turns → new.answered ≡ old.answered
+    → OnOk result (LooksLike x i → IsAdded x i old new before after)
+added_if old new x i before after (Err e) adds tells written units time turns answered = tt
+added_if old new x i before after (Ok done) adds tells written units time turns answered = added old new x i before after adds tells written units time turns answered

@@ -8,7 +8,8 @@ use Rattle.instance_plans.specs.Cells.{MadeObject}
 use Rattle.instance_plans.specs.Plans as plans
 use Rattle.instance_contents.specs.Making.{looks_of}
 use Rattle.tree_settling.specs.declared.settling.Changed.{Changed}
-use Rattle.machine_model.specs.State.{Machine, Stop, objects, completed}
+use Rattle.machine_model.specs.State.{Machine, completed}
+use Rattle.machine_model.specs.declared.stop.Stop.{Stop}
 use Rattle.machine_model.specs.Acts.{Ran, goes, stops, then_go, Done, ◌>>=◌, ◌>>◌, each, by_test, nothing}
 use Rattle.machine_model.specs.Emission.{Below, settle, emit_change, deliver_unless, emit}
 use Rattle.machine_model.specs.Making.{made, by_plan, start, complete, start_of, numbered_from, older_after, add_told, alone_planned, alone_written, make_alone}

@@ -1,6 +1,9 @@
 -- The plan of an object as the machine has it.
-use Rattle.std.proofs.Common.{◌≡◌, ◌∙◌, ap, sym, subst, refl, ℕ, suc, ◌+◌, ◌≤◌, ◌<◌, List, [], length, Option, None, Result, Ok, Err, arith}
+use Rattle.std.proofs.Common.{◌≡◌, ◌∙◌, ap, sym, subst, refl, ℕ, suc, ◌+◌, ◌≤◌, ◌<◌, List, [], length, Option, None, Result, Ok, Err, IfOk, IfErr, arith}
 use Rattle.instance_plans.specs.Plans.{full}
+use Rattle.qml_scope.specs.Shapes.{Known}
+use Rattle.instancing.specs.declared.numbers.NumbersFault.{NumbersFault}
+use Rattle.instancing.specs.declared.numbers.NumbersFault.TheVariants as fault
 use Rattle.instancing.proofs.GrowthLemmas.{one_at_least}
 use Rattle.object_plans.specs.declared.planning.Order.{Order}
 use Rattle.object_plans.specs.declared.planning.Instance.{Instance}
@@ -40,3 +43,24 @@ no_room m u o e =
     let some : 0 < length (objects_of_plan m.units (order_alone u o m)) = one_at_least m.units u o (suc m.given) None None in
     let more : room m < length (objects_of_plan m.units (order_alone u o m)) = omega arith in
     full_so m.units m.known (order_alone u o m) [] more
+
+-- ---- the answer of the plan
+
+abbrev order_with : ℕ → ℕ → ℕ → ℕ → Order
+order_with u o n r = record { unit = u; object = o; enclosing = None; owner = None; first = n; room = r }
+
+pub planned_if : (m : Machine) (known : Known) (u o n r : ℕ) (result : Result Instance NumbersFault) → known ≡ m.known → n ≡ m.given + 1 → r ≡ room m
+    → IfOk result (λ i. planned_with m.units known (order_with u o n r) [] [] ≡ Ok (instance_planned m.units known (order_with u o n r) [] []))
+    → IfOk result (λ i. Makes m.units known (order_with u o n r) [] i)
+    → IfOk result (λ i. PlansAlone u o m i)
+planned_if m known u o n r (Err f) k e h planned makes = tt
+planned_if m known u o n r (Ok i) k e h planned makes =
+    planned_alone m u o n r i e h
+    (subst (λ x. planned_with m.units x (order_with u o n r) [] [] ≡ Ok (instance_planned m.units x (order_with u o n r) [] [])) k planned)
+    (subst (λ x. Makes m.units x (order_with u o n r) [] i) k makes)
+
+pub full_if : (m : Machine) (known : Known) (u o n r : ℕ) (result : Result Instance NumbersFault) → known ≡ m.known → n ≡ m.given + 1 → r ≡ room m
+    → IfErr result (λ e. e ≡ fault.Full → planned_with m.units known (order_with u o n r) [] [] ≡ Err full)
+    → IfErr result (λ e. e ≡ fault.Full → alone_planned u o m ≡ Err full)
+full_if m known u o n r (Ok i) k e h f = tt
+full_if m known u o n r (Err x) k e h f = λ is. full_alone m u o n r e h (subst (λ y. planned_with m.units y (order_with u o n r) [] [] ≡ Err full) k (f is))

@@ -10,7 +10,8 @@ use Rattle.object_plans.specs.declared.planning.Order.{Order}
 use Rattle.object_plans.specs.declared.planning.Instance.{Instance}
 use Rattle.object_plans.specs.Planning.{instance_planned, Makes}
 use Rattle.live_tree.specs.Live.{Live}
-use Rattle.machine_model.specs.State.{Machine, objects}
+use Rattle.machine_model.specs.State.{Machine}
+use Rattle.machine_model.specs.declared.stop.Stop.TheVariants as stop
 use Rattle.machine_model.specs.Acts.{goes}
 use Rattle.machine_model.specs.Making.{lesser, room, alone_planned, alone_written, add_told}
 use Rattle.machine_making.specs.Adding.{starting}
@@ -54,5 +55,5 @@ pub record IsMade (u o : ℕ) (old new : State) (before after : List ObjNo) : Ty
 
 abbrev pub AddsAlone : ℕ → ℕ → State → Result (Unit {0}) Fault → State → List ObjNo → List ObjNo → Type 0
 AddsAlone u o old (Ok done) new before after = IsMade u o old new before after
-AddsAlone u o old (Err (fault.Stopped s)) new before after = (s ≡ objects) × (alone_planned u o (machine_of old) ≡ Err full) × (machine_of new ≡ machine_of old)
+AddsAlone u o old (Err (fault.Stopped s)) new before after = (s ≡ stop.Objects) × (alone_planned u o (machine_of old) ≡ Err full) × (machine_of new ≡ machine_of old)
 AddsAlone u o old (Err fault.NoMemory) new before after = Unit {0}

@@ -32,7 +32,7 @@ fn room(tree: &LiveTree) -> u32
 }
 
 /// The plan of an object without owner and instance around it.
-#[tactic(auto, using(crate::proofs::PlanLemmas::planned_alone, crate::proofs::PlanLemmas::full_alone, crate::proofs::PlanLemmas::no_room))]
+#[tactic(auto, using(crate::proofs::PlanLemmas::full_if))]
 fn plan_alone<'a>(
     alloc: Global,
     state: &State<'a>,
@@ -58,7 +58,7 @@ fn plan_alone<'a>(
 }
 
 /// Adds what was planned, with how it is written.
-#[tactic(auto, using(crate::proofs::AddLemmas::added))]
+
 fn add<'a>(
     state: &mut State<'a>,
     instance: Instance,

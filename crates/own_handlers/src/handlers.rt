@@ -20,6 +20,7 @@ use type_rows::TypeRows;
 use unit_rows::{HandlerRow, SignalRef, Unit};
 
 /// A signal that an object emits, with its arguments.
+#[derive(Clone, Copy)]
 pub struct Emitted<'a> {
     pub types: &'a TypeRows,
     pub units: &'a [Unit],
