@@ -1,13 +1,10 @@
 -- What was planned is added.
-use Rattle.std.proofs.Common.{◌≡◌, ◌∙◌, ap, sym, subst, refl, ℕ, suc, ◌+◌, ◌≤◌, ◌<◌, ◌⊎◌, inl, inr, List, [], ◌∷◌, ◌++◌, map, length, Option, Some, None, Result, Ok, Err, OnOk, arith}
+use Rattle.std.proofs.Common.{◌≡◌, ◌∙◌, ap, sym, subst, refl, ℕ, suc, ◌+◌, ◌≤◌, ◌<◌, inl, inr, List, [], ◌∷◌, ◌++◌, map, Some, None, Result, Ok, Err, OnOk, arith}
 use Rattle.std.proofs.lemmas.List.{length-map}
 use Rattle.qml_base.specs.declared.numbers.ObjNo.{ObjNo}
 use Rattle.qml_base.specs.declared.memory.NoMemory.{NoMemory}
 use Rattle.qml_value.specs.declared.value.Value.{Value}
-use Rattle.qml_scope.specs.declared.shape.Shape.{Shape}
 use Rattle.qml_scope.specs.Shapes.{Known}
-use Rattle.tree_model.specs.Settling.{Tree}
-use Rattle.trace_print.specs.declared.entry.Entry.{Entry}
 use Rattle.unit_rows.specs.Seen.{all_seen}
 use Rattle.instance_plans.specs.declared.planned.Planned.{Planned}
 use Rattle.instance_plans.specs.Numbers.{AllRows, Plan}
@@ -15,15 +12,13 @@ use Rattle.instance_plans.specs.Contents.{GivenCell, all_given}
 use Rattle.instance_plans.specs.Cells.{made_object}
 use Rattle.instance_plans.specs.Plans as plans
 use Rattle.instancing.specs.Numbered.{IsOwned, AreNumbered, AreOwned}
-use Rattle.instance_contents.specs.declared.objects.MadeObject.{MadeObject}
-use Rattle.instance_contents.specs.Making.{Looks, looks_of}
+use Rattle.instance_contents.specs.Making.{looks_of}
 use Rattle.instance_contents.specs.Objects.{looks}
 use Rattle.object_plans.specs.declared.planning.Instance.{Instance}
-use Rattle.object_plans.specs.Planning.{plan_of_order, Makes}
-use Rattle.live_tree.specs.Live.{Live}
+use Rattle.object_plans.specs.Planning.{plan_of_order}
 use Rattle.machine_model.specs.State.{Machine}
 use Rattle.machine_model.specs.Acts.{goes}
-use Rattle.machine_model.specs.Making.{add_told, alone_written}
+use Rattle.machine_model.specs.Making.{add_told}
 use Rattle.machine_making.specs.Adding.{OwnedBefore, AddsAll, TellsObjects}
 use Rattle.machine_making.specs.Makes.{machine_with}
 use Rattle.machine_making.proofs.MakesLemmas.{makes}

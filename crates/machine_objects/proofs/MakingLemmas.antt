@@ -1,5 +1,5 @@
 -- A making up to what is delivered.
-use Rattle.std.proofs.Common.{◌≡◌, ◌∙◌, ap, sym, subst, refl, ℕ, zero, suc, ◌+◌, ◌-◌, Bool, true, false, List, [], ◌∷◌, ◌++◌, map, length, None, Result, Ok, Err, arith}
+use Rattle.std.proofs.Common.{◌≡◌, ◌∙◌, ap, sym, refl, ℕ, suc, ◌-◌, Bool, true, false, List, [], ◌∷◌, ◌++◌, map, length, None, Err, arith}
 use Rattle.qml_base.specs.declared.numbers.ObjNo.{ObjNo}
 use Rattle.qml_base.specs.declared.numbers.CellNo.{CellNo}
 use Rattle.instance_plans.specs.declared.planned.Planned.{Planned}
@@ -7,19 +7,18 @@ use Rattle.instance_plans.specs.Numbers.{object_no}
 use Rattle.instance_plans.specs.Cells.{MadeObject}
 use Rattle.instance_plans.specs.Plans as plans
 use Rattle.instance_contents.specs.Making.{looks_of}
-use Rattle.tree_settling.specs.declared.settling.Changed.{Changed}
-use Rattle.machine_model.specs.State.{Machine, completed}
+use Rattle.machine_model.specs.State.{Machine}
 use Rattle.machine_model.specs.declared.stop.Stop.{Stop}
-use Rattle.machine_model.specs.Acts.{Ran, goes, stops, then_go, Done, ◌>>=◌, ◌>>◌, each, by_test, nothing}
-use Rattle.machine_model.specs.Emission.{Below, settle, emit_change, deliver_unless, emit}
-use Rattle.machine_model.specs.Making.{made, by_plan, start, complete, start_of, numbered_from, older_after, add_told, alone_planned, alone_written, make_alone}
+use Rattle.machine_model.specs.Acts.{Ran, goes, stops, then_go, ◌>>◌, each, by_test, nothing}
+use Rattle.machine_model.specs.Emission.{Below, emit_change, deliver_unless}
+use Rattle.machine_model.specs.Making.{made, by_plan, start, complete, start_of, numbered_from, add_told, alone_written, make_alone}
 use Rattle.machine_making.specs.Adding.{starting, if_starts}
 use Rattle.machine_steps.specs.declared.fault.Fault.{Fault}
 use Rattle.machine_steps.specs.declared.fault.Fault.TheVariants as fault
 use Rattle.machine_steps.specs.Giving.{Fails}
 use Rattle.machine_state.specs.declared.state.State.{State}
 use Rattle.machine_state.specs.Keeping.{machine_of}
-use Rattle.machine_writes.specs.Writes.{emitted, settle_older}
+use Rattle.machine_writes.specs.Writes.{settle_older}
 use Rattle.machine_objects.specs.declared.making.Made.{Made}
 use Rattle.machine_objects.specs.Adding.{alone_instance, IsMade, AddsAlone}
 use Rattle.machine_objects.specs.Making.{start_one, complete_one, counted, left_of}
@@ -34,7 +33,7 @@ starts_same below n (x ∷ xs) m = by_start x.starts (starts_same below (suc n) 
   where
     by_start : (b : Bool) → ((m : Machine) → each (start below) (numbered_from (suc n) xs) m ≡ each (start_one below) (starting (suc n) (map looks_of xs)) m)
         → then_go (by_test b (deliver_unless below (object_no n) (start_of (object_no n))) nothing m) (λ _. each (start below) (numbered_from (suc n) xs))
-          ≡ each (start_one below) (if_starts b (object_no n) ++ starting (suc n) (map looks_of xs)) m
+        ≡ each (start_one below) (if_starts b (object_no n) ++ starting (suc n) (map looks_of xs)) m
     by_start true rest = then_same (start_one below (object_no n) m) _ _ (λ a k. rest k)
     by_start false rest = rest m
 
@@ -46,7 +45,7 @@ completions_same below n (x ∷ xs) m = then_same (complete_one below (object_no
 pub goes_on : (below : Below) (planned : List Planned) (i : plans.Instance) (given : ℕ) (m added new : Machine) (cells : List CellNo)
     → add_told None planned i given m ≡ goes tt added → settle_older below given added ≡ each (emit_change below) cells new
     → made below None planned i given m
-      ≡ (each (emit_change below) cells >> each (start_one below) (starting (suc given) (map looks_of i.objects)) >> each (complete_one below) (counted (suc given) (length i.objects))) new
+    ≡ (each (emit_change below) cells >> each (start_one below) (starting (suc given) (map looks_of i.objects)) >> each (complete_one below) (counted (suc given) (length i.objects))) new
 goes_on below planned i given m added new cells e f =
     let all = numbered_from (suc given) i.objects in
     ap (λ r. then_go (then_go (then_go r (λ _. settle_older below given)) (λ _. each (start below) all)) (λ _. each (complete below) all)) e

@@ -1,5 +1,5 @@
 -- The plan of an object as the machine has it.
-use Rattle.std.proofs.Common.{◌≡◌, ◌∙◌, ap, sym, subst, refl, ℕ, suc, ◌+◌, ◌≤◌, ◌<◌, List, [], length, Option, None, Result, Ok, Err, IfOk, IfErr, arith}
+use Rattle.std.proofs.Common.{◌≡◌, ◌∙◌, ap, subst, ℕ, suc, ◌+◌, ◌<◌, [], length, None, Result, Ok, Err, IfOk, IfErr, arith}
 use Rattle.instance_plans.specs.Plans.{full}
 use Rattle.qml_scope.specs.Shapes.{Known}
 use Rattle.instancing.specs.declared.numbers.NumbersFault.{NumbersFault}
@@ -11,7 +11,7 @@ use Rattle.object_plans.specs.Planning.{planned_with, instance_planned, Makes, o
 use Rattle.object_plans.proofs.PlanLemmas.{full_so}
 use Rattle.machine_model.specs.State.{Machine}
 use Rattle.machine_model.specs.Making.{room, alone_planned}
-use Rattle.machine_objects.specs.Adding.{order_alone, alone_instance, PlansAlone}
+use Rattle.machine_objects.specs.Adding.{order_alone, PlansAlone}
 
 order_is : (m : Machine) (u o n r : ℕ) → n ≡ m.given + 1 → r ≡ room m
     → record { unit = u; object = o; enclosing = None; owner = None; first = n; room = r } ≡ order_alone u o m
@@ -22,7 +22,7 @@ order_is m u o n r e f =
 
 pub planned_alone : (m : Machine) (u o n r : ℕ) (i : Instance) → n ≡ m.given + 1 → r ≡ room m
     → planned_with m.units m.known (record { unit = u; object = o; enclosing = None; owner = None; first = n; room = r }) [] []
-      ≡ Ok (instance_planned m.units m.known (record { unit = u; object = o; enclosing = None; owner = None; first = n; room = r }) [] [])
+    ≡ Ok (instance_planned m.units m.known (record { unit = u; object = o; enclosing = None; owner = None; first = n; room = r }) [] [])
     → Makes m.units m.known (record { unit = u; object = o; enclosing = None; owner = None; first = n; room = r }) [] i
     → PlansAlone u o m i
 planned_alone m u o n r i e f planned makes =

@@ -58,7 +58,6 @@ fn plan_alone<'a>(
 }
 
 /// Adds what was planned, with how it is written.
-
 fn add<'a>(
     state: &mut State<'a>,
     instance: Instance,
@@ -73,11 +72,7 @@ fn add<'a>(
         objects,
         shapes,
     } = instance;
-    if state
-        .written
-        .extend_from_slice(planned.as_slice())
-        .is_err()
-    {
+    if state.written.extend_from_slice(planned.as_slice()).is_err() {
         return Err(NoMemory);
     }
     add_instance(
@@ -92,7 +87,6 @@ fn add<'a>(
 
 /// Plans an object without owner and instance around it, and adds all that is made with it, told as made; and the numbers of
 /// those with a start, in order.
-#[tactic(auto, using(crate::proofs::AddLemmas::owned_alone, crate::proofs::AddLemmas::added_alone))]
 pub fn add_alone<'a>(
     alloc: Global,
     state: &mut State<'a>,

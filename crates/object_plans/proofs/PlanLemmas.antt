@@ -69,7 +69,7 @@ full_so units live o delegates h =
 
 objects_so : (t : Tables) (units : AllRows) (live : Known) (o : Order) (delegates : Delegates) → IsPlanOf units live o t
     → map (object_of t (delegate_values delegates)) t.objects.items ≡ map looks_of (instance_planned units live o delegates []).objects
-objects_so t units live o delegates h = 
+objects_so t units live o delegates h =
     sym (map-map looks_of _ t.objects.items)
     ∙ ap (λ us. map looks_of (instance_made us (live_in t) (plan_in t) (all_given us (live_in t) (plan_in t)) o.unit o.object t.first delegates []).objects) h.rows
     ∙ ap (λ k. map looks_of (instance_made units k (plan_in t) (all_given units k (plan_in t)) o.unit o.object t.first delegates []).objects) h.live_so
