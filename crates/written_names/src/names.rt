@@ -48,11 +48,7 @@ pub fn declared(units: &[Unit], u: u32, o: u32) -> &[NameRow]
 }
 
 /// The first name so of the roots of these documents.
-fn named_by_documents<'a>(
-    units: &'a [Unit],
-    documents: &[u32],
-    name: &Text,
-) -> Option<&'a NameRow>
+fn named_by_documents<'a>(units: &'a [Unit], documents: &[u32], name: &Text) -> Option<&'a NameRow>
     ensures { option_copied result ≡ find (is_named name.now) (flat_map (names_of_root (all_seen units.now)) documents.now) }
 {
     'documents: for document in documents {

@@ -50,11 +50,7 @@ fn signal_in(rows: &[NameRow], number: u32) -> Option<&NameRow>
 }
 
 /// The first row so of the roots of these documents.
-fn signal_of_documents<'a>(
-    units: &'a [Unit],
-    documents: &[u32],
-    number: u32,
-) -> Option<&'a NameRow>
+fn signal_of_documents<'a>(units: &'a [Unit], documents: &[u32], number: u32) -> Option<&'a NameRow>
     ensures { option_copied result ≡ find (is_signal_no number) (flat_map (names_of_root (all_seen units.now)) documents.now) }
 {
     'documents: for document in documents {
