@@ -29,7 +29,7 @@ found_one (finds_signal s parameters) name n rest h = by_test (nat_eq (signal_no
   where
     by_test : (b : Bool)
         → cond b (Some (record { number = signal_no s; name = name; parameters = parameters })) (find (has_no n) (filter_map signal_in rest))
-          ≡ option_and_then signal_in (cond b (Some (record { name = name; finds = finds_signal s parameters })) (find (is_signal_no n) rest))
+        ≡ option_and_then signal_in (cond b (Some (record { name = name; finds = finds_signal s parameters })) (find (is_signal_no n) rest))
     by_test true = refl
     by_test false = h
 found_one (finds_cell p a) name n rest h = h
@@ -44,11 +44,11 @@ found_so n (r ∷ rest) = found_one r.finds r.name n rest (found_so n rest)
 
 holds : (n : ℕ) (rows : List NameRow) (r : NameRow) → find (is_signal_no n) rows ≡ Some r → is_signal_no n r ≡ true
 holds n [] r e = absurd (cc)
-holds n (x ∷ rest) r e = by_test (is_signal_no n x) refl e
+holds n (x ∷ rest) r e = by_test (is_signal_no n x) refl e (holds n rest r)
   where
-    by_test : (b : Bool) → is_signal_no n x ≡ b → cond b (Some x) (find (is_signal_no n) rest) ≡ Some r → is_signal_no n r ≡ true
-    by_test true is same = let y : x ≡ r = cc in ap (is_signal_no n) (sym y) ∙ is
-    by_test false is same = holds n rest r same
+    by_test : (b : Bool) → is_signal_no n x ≡ b → cond b (Some x) (find (is_signal_no n) rest) ≡ Some r → (find (is_signal_no n) rest ≡ Some r → is_signal_no n r ≡ true) → is_signal_no n r ≡ true
+    by_test true is same later = let y : x ≡ r = cc in ap (is_signal_no n) (sym y) ∙ is
+    by_test false is same later = later same
 
 abbrev no_name_signal : NamedSignal
 no_name_signal = record { number = 0; name = []; parameters = [] }

@@ -166,11 +166,7 @@ fn push_documents(
 /// Puts what the object's own handlers of the signal have to do: those of the documents of its type, the lowest first, and then
 /// those of its own text. None of a Component that is made around an object. Without memory a front of them may have been put.
 #[tactic(auto, using(crate::proofs::HandlerLemmas::all_own, crate::proofs::HandlerLemmas::none_around))]
-pub fn push_own(
-    alloc: Global,
-    emitted: &Emitted,
-    list: &mut Vec<Delivery>,
-) -> Result<(), NoMemory>
+pub fn push_own(alloc: Global, emitted: &Emitted, list: &mut Vec<Delivery>) -> Result<(), NoMemory>
     ensures { OnOk result (map delivery_seen list.new.items ≡ map delivery_seen list.old.items ++ s.own_deliveries (all_seen emitted.now.units.now) emitted.now.written emitted.now.object (signal_seen emitted.now.signal) emitted.now.args.now) }
 {
     let written = emitted.written;
