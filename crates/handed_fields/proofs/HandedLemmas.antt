@@ -1,5 +1,5 @@
 -- From the table of names to the definition.
-use Rattle.std.proofs.Common.{◌≡◌, ◌∙◌, ap, sym, refl, ℕ, ◌<◌, length, Bool, true, false, cond, List, [], ◌∷◌, ◌++◌, map, is_some, slice_get, Option, Some, None}
+use Rattle.std.proofs.Common.{◌≡◌, ◌∙◌, ap, sym, refl, ℕ, ◌<◌, length, Bool, true, false, cond, List, [], ◌∷◌, ◌++◌, map, is_some, slice_get, arith, Option, Some, None}
 use Rattle.std.specs.Str.{bytes_eq}
 use Rattle.std.specs.List.{filter_map, cons_option, find}
 use Rattle.std.proofs.lemmas.Slice.Eq.{bytes_eq-Decides}
@@ -19,7 +19,6 @@ use Rattle.instance_contents.specs.Tables.{rows_in, live_in, plan_in, placed, no
 use Rattle.instance_shapes.specs.Told.{pairs_seen}
 use Rattle.instance_shapes.proofs.SeenLemmas.{are_seen}
 use Rattle.handed_fields.specs.Handed.{cell_behind, cell_under, handed_under}
-
 
 turned : (xs ys : List ℕ) → bytes_eq xs ys ≡ bytes_eq ys xs
 turned xs ys = grind (arith, bytes_eq-Decides)

@@ -1,6 +1,6 @@
 //! The cells to which handed fields go.
 
-ghost use Rattle.std.specs.Prelude.{◌≡◌, ◌<◌, ◌++◌, ◌∷◌, [], length, IfOk, OnOk};
+ghost use Rattle.std.specs.Prelude.{◌≡◌, ◌++◌, ◌∷◌, [], slice_get, option_copied, IfOk, OnOk};
 ghost use Rattle.std.specs.List.{filter_map};
 ghost use Rattle.std.specs.Option.{option_map};
 ghost use Rattle.unit_rows.specs.Given.{cell_given as given_to};
@@ -10,6 +10,7 @@ ghost use Rattle.instance_contents.specs.Tables.{Stands, rows_in, live_in, plan_
 ghost use Rattle.handed_fields.specs.Handed as s;
 
 use instance_contents::{Tables, builtin_at};
+use instance_plans::PlannedInstance;
 use instance_shapes::names_of;
 use name_table::NameTable;
 use qml_base::{CellNo, Found, NoMemory};
@@ -107,8 +108,16 @@ fn put_fields(
     Ok(())
 }
 
+/// The first instance of a plan.
+fn root_of(instances: &[PlannedInstance]) -> Option<&PlannedInstance>
+    ensures { option_copied result ≡ slice_get instances.now 0 }
+{
+    instances.get(0)
+}
+
 /// The cells that take what is handed to object `r` of a document, the root of the first instance of a plan, with so many delegate
-/// names: each field that names a property, with the cell to which it goes.
+/// names: each field that names a property, with the cell to which it goes. A plan has an instance; for none the answer is as without
+/// memory.
 #[tactic(auto, using(crate::proofs::HandedLemmas::handed_so))]
 pub fn handed_cells(
     alloc: Global,
@@ -117,11 +126,12 @@ pub fn handed_cells(
     delegates: usize,
     fields: &[(Text, Value)],
 ) -> Result<Vec<(CellNo, Value)>, NoMemory>
-    requires stands { Stands tables.now }
-    requires some { 0 < length tables.now.instances.items }
+    requires { Stands tables.now }
     ensures { IfOk result (λ handed. handed.items ≡ filter_map (cell_of_field (rows_in tables.now) (plan_in tables.now) (names_seen (rows_in tables.now) (live_in tables.now) (plan_in tables.now) (placed tables.now 0) (r, tables.now.first) delegates)) fields.now) }
 {
-    let root = &tables.instances[0];
+    let Some(root) = root_of(tables.instances.as_slice()) else {
+        return Err(NoMemory);
+    };
     let names = names_of(alloc, tables, 0, root, (r, tables.first), delegates)?;
     let mut handed = Vec::new(alloc);
     put_fields(alloc, tables, &names, fields, &mut handed)?;
