@@ -1,6 +1,6 @@
 //! That an object is made, and written to, where there is memory.
 
-ghost use Rattle.std.specs.Prelude.{◌≡◌, IfOk};
+ghost use Rattle.std.specs.Prelude.{◌≡◌, ◌<◌, IfOk};
 ghost use Rattle.unit_rows.specs.Seen.{all_seen};
 ghost use Rattle.machine_model.specs.Texts.{binding_asks};
 ghost use Rattle.machine_state.specs.Keeping.{Ready};
