@@ -115,20 +115,20 @@ ids_at us n (s ∷ sources) (y ∷ ids) a zero x e =
 ids_at us n (s ∷ sources) (y ∷ ids) a (suc d) x e =
     let z = ids_at us (suc n) sources ids a.1 d x e in (z.0, z.1, subst (λ k. IdsOf us k x (Some z.0)) (one_on n d) z.2)
 
-aliases_at : (sources : List DocumentTable) (all : List UnitAliases) → AllAliases sources all → (d : ℕ) (x : DocumentTable) → slice_get sources d ≡ Some x
+pub aliases_at : (sources : List DocumentTable) (all : List UnitAliases) → AllAliases sources all → (d : ℕ) (x : DocumentTable) → slice_get sources d ≡ Some x
     → (y : UnitAliases) × (slice_get all d ≡ Some y) × AliasesOf x y
 aliases_at [] all a d x e = none_some x e
 aliases_at (s ∷ sources) [] a d x e = absurd a
 aliases_at (s ∷ sources) (y ∷ all) a zero x e = (y, refl, subst (λ z. AliasesOf z y) (ap (λ v. unwrap_or v x) e) a.0)
 aliases_at (s ∷ sources) (y ∷ all) a (suc d) x e = aliases_at sources all a.1 d x e
 
-aliases_long : (sources : List DocumentTable) (all : List UnitAliases) → AllAliases sources all → length all ≡ length sources
+pub aliases_long : (sources : List DocumentTable) (all : List UnitAliases) → AllAliases sources all → length all ≡ length sources
 aliases_long [] [] a = refl
 aliases_long [] (y ∷ all) a = absurd a
 aliases_long (s ∷ sources) [] a = absurd a
 aliases_long (s ∷ sources) (y ∷ all) a = ap suc (aliases_long sources all a.1)
 
-ids_long : (us : List UnitNames) (n : ℕ) (sources : List DocumentTable) (ids : List UnitIds) → AllIds us n sources ids → length ids ≡ length sources
+pub ids_long : (us : List UnitNames) (n : ℕ) (sources : List DocumentTable) (ids : List UnitIds) → AllIds us n sources ids → length ids ≡ length sources
 ids_long us n [] [] a = refl
 ids_long us n [] (y ∷ ids) a = absurd a
 ids_long us n (s ∷ sources) [] a = absurd a
