@@ -1,7 +1,7 @@
 use Rattle.std.proofs.Common.{◌≡◌, ◌+◌, ◌≤◌}
 use Rattle.qml_syntax.specs.Places.{part_at}
-use Rattle.first_tokens.specs.FirstTokens.{place_in}
-use Rattle.first_tokens.proofs.descending.first_token.Given as goal
+use Rattle.value_reading.specs.FirstTokens.{place_in}
+use Rattle.value_reading.proofs.descending.first_token.Given as goal
 
 -- the first token stays, and each step goes down
 abbrev pub invariant-down : goal.invariant-down

@@ -8,8 +8,8 @@ use Rattle.qml_syntax.specs.Nodes.{Item, of_expr, of_stmt, of_sign, of_choice, o
 use Rattle.qml_syntax.specs.Places.{part_at}
 use Rattle.program_names.specs.Written.{place_of_object}
 use Rattle.type_uses.specs.Uses.{nowhere}
-use Rattle.first_tokens.specs.declared.descending.Found.{Found}
-use Rattle.first_tokens.specs.declared.descending.Found.TheVariants as found
+use Rattle.value_reading.specs.declared.descending.Found.{Found}
+use Rattle.value_reading.specs.declared.descending.Found.TheVariants as found
 
 -- of a statement, an expression, an object or a list of objects, and of what these begin with
 abbrev pub place_in : Item → Place

@@ -15,7 +15,7 @@ use Rattle.qml_syntax.specs.Places.{part_at, places_of}
 use Rattle.qml_syntax.proofs.PlacesLemmas.{parts_at_places, places_hold, none_of}
 use Rattle.qml_syntax.proofs.RootLemmas.{listing_all}
 use Rattle.type_uses.specs.Uses.{nowhere, node_at}
-use Rattle.first_tokens.specs.FirstTokens.{place_in, place_of_first, own_place}
+use Rattle.value_reading.specs.FirstTokens.{place_in, place_of_first, own_place}
 
 -- ---- a part by its node and its first part
 

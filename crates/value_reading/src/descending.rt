@@ -4,11 +4,13 @@ ghost use Rattle.std.specs.Prelude.{◌≡◌};
 ghost use Rattle.qml_syntax.specs.Opened.{IsListing};
 ghost use Rattle.qml_syntax.specs.Places.{part_at};
 ghost use Rattle.type_uses.specs.Uses.{node_at};
-ghost use Rattle.first_tokens.specs.FirstTokens as s;
+ghost use Rattle.value_reading.specs.FirstTokens as s;
 
 use qml_base::Place;
 use qml_syntax::{Node, Tree};
-use type_uses::NOWHERE;
+
+/// A place that no token has.
+const NOWHERE: Place = Place { line: 0, column: 0 };
 
 /// Where the first token of a part is: at a place, or in the part whose node stands there.
 #[derive(Clone, Copy, Debug)]
