@@ -3,7 +3,9 @@
 #![tactic(auto)]
 
 mod document;
+mod files;
 mod order;
 
 pub use document::tell_document;
+pub use files::{Found, first_of_files};
 pub use order::first_of_program;
