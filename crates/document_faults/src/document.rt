@@ -6,6 +6,7 @@ ghost use Rattle.program_names.specs.ComponentRoots.{roots_of};
 ghost use Rattle.load_faults.specs.Faults.{first_from};
 ghost use Rattle.load_faults.specs.Duplicates.{duplicate_ids};
 ghost use Rattle.load_faults.specs.Aliases.{bad_aliases};
+ghost use Rattle.document_tables.specs.declared.program.ProgramTables as t;
 ghost use Rattle.document_tables.specs.Tables.{TellProgram};
 ghost use Rattle.program_paths.specs.Paths.{ArePaths};
 ghost use Rattle.document_faults.specs.Told as s;
@@ -51,12 +52,11 @@ fn tell_ids(
 }
 
 /// Tells each alias that ends at nothing.
-fn tell_aliases(tables: &ProgramTables, paths: &ProgramPaths, document: usize, best: &mut Best)
-    ensures { (p : Program) → TellProgram p tables.now →
-        ArePaths tables.now.names.units.items tables.now.documents.items (Some paths.now) →
+fn tell_aliases(paths: &ProgramPaths, document: usize, best: &mut Best)
+    ensures { (p : Program) (tables : t.ProgramTables) → TellProgram p tables →
+        ArePaths tables.names.units.items tables.documents.items (Some paths.now) →
         best.new.fault ≡ first_from best.old.fault (bad_aliases p (roots_of p) document) }
 {
-    let _documents = tables.documents.as_slice();
     match aliases_at(&paths.aliases, document) {
         Some(unit) => tell_bad_aliases(&paths.ends, document, &unit.rows, best),
         None => {}
@@ -79,6 +79,6 @@ pub fn tell_document(
 {
     tell_ids(alloc, tables, paths, document, best)?;
     tell_names(alloc, tables, document, best)?;
-    tell_aliases(tables, paths, document, best);
+    tell_aliases(paths, document, best);
     Ok(())
 }
