@@ -1,9 +1,9 @@
-mod ListLemmas
-mod TypeLemmas
+pub mod ListLemmas
+pub mod TypeLemmas
 pub mod PlaceLemmas
-mod TableLemmas
-mod SourceLemmas
-mod StateLemmas
-mod LookLemmas
-mod CellLemmas
-mod ObjectLemmas
+pub mod TableLemmas
+pub mod SourceLemmas
+pub mod StateLemmas
+pub mod LookLemmas
+pub mod CellLemmas
+pub mod ObjectLemmas

@@ -15,7 +15,7 @@ use qml_types::{Cell, Method, Signal, TypeNo, own_cells, own_methods, own_signal
 use std::alloc::Global;
 
 /// The text of a name.
-fn text_of(alloc: Global, name: &str) -> Result<Text, NoMemory>
+pub fn text_of(alloc: Global, name: &str) -> Result<Text, NoMemory>
     ensures { IfOk result (λ text. text ≡ name.now) }
 {
     match Text::from_latin1(alloc, name.as_bytes()) {
@@ -38,7 +38,7 @@ fn changed_text(alloc: Global, name: &str) -> Result<Text, TextMemory>
 }
 
 /// The name of the signal of a property's changes.
-fn changed(alloc: Global, name: &str) -> Result<Text, NoMemory>
+pub fn changed(alloc: Global, name: &str) -> Result<Text, NoMemory>
     ensures { IfOk result (λ text. text ≡ changed_name name.now) }
 {
     match changed_text(alloc, name) {

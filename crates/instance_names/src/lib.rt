@@ -7,5 +7,5 @@ mod laws;
 #[cfg(test)]
 mod tests;
 
-pub use builtin::{change_signal, own_signal, put_builtin};
+pub use builtin::{change_signal, changed, own_signal, put_builtin, text_of};
 pub use laws::names_of_types_are_the_definitions;

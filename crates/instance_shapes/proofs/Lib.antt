@@ -1,4 +1,4 @@
-mod CountLemmas
-mod DocumentLemmas
-mod SeenLemmas
-mod ShapeLemmas
+pub mod CountLemmas
+pub mod DocumentLemmas
+pub mod SeenLemmas
+pub mod ShapeLemmas

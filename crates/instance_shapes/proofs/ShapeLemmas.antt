@@ -81,7 +81,7 @@ are_shapes t u r delegates = first_is t (length delegates) (delegate_names t u r
 
 -- ---- one instance more
 
-item_at : (k : ℕ) (xs : List PlannedInstance) (x : PlannedInstance) → x ≡ get_or xs k x → k < length xs → drop k xs ≡ x ∷ drop (k + 1) xs
+pub item_at : (k : ℕ) (xs : List PlannedInstance) (x : PlannedInstance) → x ≡ get_or xs k x → k < length xs → drop k xs ≡ x ∷ drop (k + 1) xs
 item_at k xs x is less = drop-cons xs k x less ∙ ap (λ (y : PlannedInstance). y ∷ drop (suc k) xs) (sym is) ∙ ap (λ m. x ∷ drop m xs) (sym (add-one k))
 
 pub shapes_more : (t : Tables) (d k : ℕ) (names next : List (List ℕ × CellNo)) (xs : List PlannedInstance) (s : PlannedInstance) (before after : List Shape) (z : Shape)

@@ -8,4 +8,5 @@ mod rows;
 mod shapes;
 mod told;
 
+pub use objects::names_of;
 pub use shapes::plan_shapes;

@@ -1,4 +1,4 @@
-mod StackLemmas
-mod GrowthLemmas
-mod NumberLemmas
-mod AscendingLemmas
+pub mod StackLemmas
+pub mod GrowthLemmas
+pub mod NumberLemmas
+pub mod AscendingLemmas

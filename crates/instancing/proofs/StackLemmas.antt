@@ -75,7 +75,7 @@ pub at_builtin : (units : AllRows) (os : List Open) (depth n : ℕ) (t : TypeRef
 at_builtin units os depth n t b plan is =
     ap (resumed units os) (sym (nothing_builtin depth units b n plan)) ∙ ap (λ t. resumed units os (inner_within depth units t n plan)) (sym is)
 
-counted : (units : List Unit) → length (all_seen units) ≡ length units
+pub counted : (units : List Unit) → length (all_seen units) ≡ length units
 counted [] = refl
 counted (u ∷ us) = ap suc (counted us)
 

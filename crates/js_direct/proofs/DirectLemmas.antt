@@ -32,7 +32,7 @@ use Rattle.js_progress.specs.Moving.{MovesAt}
 use Rattle.js_progress.proofs.MovingLemmas.{begun_at, resumes_at}
 use Rattle.js_direct.specs.declared.shown.Shown.{Shown}
 use Rattle.js_direct.specs.declared.shown.Shown.TheVariants as shows
-use Rattle.js_direct.specs.Showing.{IfShown, IsShown, NameShows, Shows, Operates, Combines, ChainShows, passed, Joins, is_choose}
+use Rattle.js_direct.specs.Showing.{IfShown, IsShown, NameShows, Shows, Operates, Combines, ChainShows, WholeShows, passed, Joins, is_choose}
 
 -- ---- one move behind another
 
@@ -171,6 +171,20 @@ pair_moves w c h at s k l v old new y e g n j =
           subst (λ (u : Standing). MovesAt w c h old (next.Begin at) u y) (sym i.1) (subst (λ (z : Next). MovesAt w c h old (next.Begin at) m z) (sym i.2) all))
       | inr i ↦ subst (λ (u : Standing). MovesAt w c h old (next.Begin at) u y) (sym i.0) (subst (λ (z : Next). MovesAt w c h old (next.Begin at) (with_frame D m) z) (sym i.1) f)
     ]
+
+-- ---- chains of two operands alone
+
+-- what stands where a text begins, and behind a chain of two operands
+abbrev pub at_first : List CellNo → List Local → Standing
+at_first rs ls = record { frames = []; reads = rs; left = 100000; locals = ls }
+
+abbrev pub behind_whole : Option CellNo → Option CellNo → List CellNo → List Local → Standing
+behind_whole k l rs ls = passed l (passed k (without_node (at_first rs ls)))
+
+pub whole_moves : (w : World) (c : Laid) (h : Home) (at : ℕ) (k l : Option CellNo) (v : Value) (rs : List CellNo) (ls : List Local)
+    → WholeShows w c h ls at k l v → MovesAt w c h (at_first rs ls) (next.Begin at) (behind_whole k l rs ls) (next.Back v)
+whole_moves w c h at k l v rs ls s =
+    pair_moves w c h at s.0 k l v (at_first rs ls) (behind_whole k l rs ls) (next.Back v) s.1 s.2 (omega arith) (inl (s.3, refl, refl))
 
 -- ---- choices
 

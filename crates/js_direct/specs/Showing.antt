@@ -10,11 +10,13 @@ use Rattle.qml_syntax.specs.Opened.{node_of}
 use Rattle.qml_value.specs.declared.value.Value.{Value, Bool, Num}
 use Rattle.evaluation.specs.declared.came.Ended.TheVariants as by
 use Rattle.evaluation.specs.Evaluating.{is}
+use Rattle.evaluation.specs.declared.came.Evaluated.{Evaluated}
+use Rattle.evaluation.specs.declared.came.Evaluated.TheVariants as answer
 use Rattle.js_meaning.specs.Operate.{bounded, operate}
 use Rattle.js_meaning.specs.Locals.{alive, local}
 use Rattle.js_meaning.specs.Looking.{decides, literal_value}
 use Rattle.js_locals.specs.declared.locals.Local.{Local}
-use Rattle.js_locals.specs.Laid.{IsOperand, Laid}
+use Rattle.js_locals.specs.Laid.{IsOperand, Laid, is_chain}
 use Rattle.js_locals.specs.Scopes.{scopes_of}
 use Rattle.js_frames.specs.declared.frames.Frame.TheVariants as frame
 use Rattle.js_frames.specs.declared.frames.Next.{Next}
@@ -68,9 +70,18 @@ ChainShows w c h ls at s k l v =
     (q : ℕ) × (o : Operator) × (r : ℕ) × FirstPart c at q × (c.rest q ≡ c.item s ∷ c.rest s) × IsOperand c at s o r
     × Combines w c h ls o (node_of (c.item q)) (node_of (c.item r)) k l v
 
+-- a chain of two operands alone gives this value at once
+abbrev pub WholeShows : World → Laid → Home → List Local → ℕ → Option CellNo → Option CellNo → Value → Type 0
+WholeShows w c h ls at k l v = (s : ℕ) × (is_chain (node_of (c.item at)) ≡ true) × ChainShows w c h ls at s k l v × (c.rest s ≡ [])
+
 abbrev pub noted : Option CellNo → List CellNo → List CellNo
 noted None rs = rs
 noted (Some cell) rs = rs ++ cell ∷ []
+
+-- what was noted behind a chain of two operands that gives its value at once, or nothing is said where there was no memory
+abbrev pub Notes : Option CellNo → Option CellNo → Value → List CellNo → List CellNo → Evaluated → Type 0
+Notes k l v old new answer.NoMemory = Unit {0}
+Notes k l v old new o = (o ≡ answer.Value v) × (new ≡ noted l (noted k old))
 
 -- a node was begun, and the cell read that it reads
 abbrev pub passed : Option CellNo → Standing → Standing

@@ -3,14 +3,14 @@
 ghost use Rattle.std.specs.Prelude.{◌≡◌, ◌<◌, true, IfOk};
 ghost use Rattle.qml_syntax.specs.Opened.{node_of};
 ghost use Rattle.js_meaning.specs.Operate.{counts};
-ghost use Rattle.js_locals.specs.Laid.{laid, is_chain};
+ghost use Rattle.js_locals.specs.Laid.{laid};
 ghost use Rattle.js_frames.specs.Standing.{standing, without_node};
 ghost use Rattle.js_frames.specs.Moves.{ChooseOn};
 ghost use Rattle.js_frames.specs.declared.frames.Next.TheVariants as upcoming;
 ghost use Rattle.js_progress.specs.Moving.{MovesAt};
 ghost use Rattle.js_direct.specs.Showing.{is_choose, passed};
 
-use crate::pairs::{chain, pass};
+use crate::pairs::{chain, is_chain, pass};
 use crate::shown::{Plain, plain_value};
 use evaluation::View;
 use js_frames::{Machine, Next};
@@ -140,17 +140,6 @@ fn choice_followed<V: View>(
             Ok(further)
         }
         other => Ok(other),
-    }
-}
-
-/// Whether it is the node of a chain.
-#[inline(always)]
-fn is_chain(node: &Node) -> bool
-    ensures { result ≡ is_chain node.now }
-{
-    match node {
-        Node::Chain(_, _, _) => true,
-        _ => false,
     }
 }
 

@@ -6,6 +6,8 @@
 mod beginning;
 mod pairs;
 mod shown;
+mod whole;
 
 pub use beginning::begun_directly;
 pub use shown::Shown;
+pub use whole::{WholeValue, whole_ended, whole_value};

@@ -14,10 +14,21 @@ use js_frames::{Frame, Machine, Next};
 use js_locals::{Locals, first_part, next_part, node_at};
 use js_steps::{begun, operand};
 use qml_base::{CellNo, Home};
-use qml_syntax::Tree;
+use qml_syntax::{Node, Tree};
 use qml_text::NoMemory;
 use qml_value::Value;
 use std::alloc::Global;
+
+/// Whether it is the node of a chain.
+#[inline(always)]
+pub(crate) fn is_chain(node: &Node) -> bool
+    ensures { result ≡ is_chain node.now }
+{
+    match node {
+        Node::Chain(_, _, _) => true,
+        _ => false,
+    }
+}
 
 /// Counts an operand that was begun, and notes the cell that was read.
 #[inline(always)]
@@ -75,14 +86,14 @@ fn paired(
 
 /// The second part of a chain, and the value of the first two operands with the cells that are read.
 #[derive(Drop)]
-struct Pair {
-    part: usize,
-    it: Combined,
+pub(crate) struct Pair {
+    pub(crate) part: usize,
+    pub(crate) it: Combined,
 }
 
 /// The second part of a chain, and the value of the first two operands where they show numbers.
 #[inline(always)]
-fn chain_value<V: View>(
+pub(crate) fn chain_value<V: View>(
     view: &V,
     locals: &Locals,
     tree: &Tree,

@@ -6,7 +6,7 @@ mod looking;
 mod pushing;
 
 pub use looking::{
-    arrive, arrive_ended, element, found_value, local_value, member, name_value, next_of,
-    read_cell, threw,
+    arrive, arrive_ended, element, found_member, found_value, local_value, member, name_value,
+    next_of, read_cell, threw,
 };
 pub use pushing::pushed;

@@ -5,6 +5,7 @@ ghost use Rattle.evaluation.specs.Hearing.{heard, Answers};
 ghost use Rattle.js_meaning.specs.Eval.{asks_whole};
 ghost use Rattle.js_frames.specs.Stepping.{IsOutcome, EndsAs};
 
+use crate::directly::directly;
 use crate::running::run_from;
 use crate::starting::start;
 use evaluation::{Evaluated, Rules, View};
@@ -111,8 +112,16 @@ pub fn eval<V: View, C: Code, L: Ledger>(
     ensures answers { Answers (heard (V.names view.now) (V.seen view.now) (asks_whole (C.meaning code.now) home text (C.texts code.now text))) reads.old.items reads.new.items result }
     ensures steps { steps.new ≡ steps.old + 1 }
 {
-    let mut frames = Stack::new(alloc);
-    eval_over(alloc, view, code, home, text, &mut frames, reads, steps)
+    match directly(alloc, view, code, home, text, reads) {
+        Some(answer) => {
+            steps.tick();
+            answer
+        }
+        None => {
+            let mut frames = Stack::new(alloc);
+            eval_over(alloc, view, code, home, text, &mut frames, reads, steps)
+        }
+    }
 }
 
 /// The evaluation of the texts of units. It keeps the room of its frames from one text to the next.
@@ -142,10 +151,9 @@ impl<'a, C> UnitRules<'a, C> {
     }
 }
 
-impl<'a, C: Code, L: Ledger> Rules<L> for UnitRules<'a, C> {
-    ghost asks = { λ r text home. asks_whole (C.meaning r.code.now) home text (C.texts r.code.now text) };
-
-    fn eval<V: View>(
+impl<'a, C: Code> UnitRules<'a, C> {
+    /// Evaluates a text with frames in the room that is kept.
+    fn eval_in_room<V: View, L: Ledger>(
         &mut self,
         alloc: Global,
         view: &V,
@@ -153,7 +161,11 @@ impl<'a, C: Code, L: Ledger> Rules<L> for UnitRules<'a, C> {
         text: ExprNo,
         reads: &mut Vec<CellNo>,
         steps: &mut Steps<L>,
-    ) -> Evaluated {
+    ) -> Evaluated
+        ensures answers { Answers (heard (V.names view.now) (V.seen view.now) (asks_whole (C.meaning self.old.code.now) home text (C.texts self.old.code.now text))) reads.old.items reads.new.items result }
+        ensures steps { steps.new ≡ steps.old + 1 }
+        ensures code { self.new.code.now ≡ self.old.code.now }
+    {
         let mut frames = self.room(alloc);
         let answer = eval_over(
             alloc,
@@ -167,5 +179,27 @@ impl<'a, C: Code, L: Ledger> Rules<L> for UnitRules<'a, C> {
         );
         self.frames = Some(frames);
         answer
+    }
+}
+
+impl<'a, C: Code, L: Ledger> Rules<L> for UnitRules<'a, C> {
+    ghost asks = { λ r text home. asks_whole (C.meaning r.code.now) home text (C.texts r.code.now text) };
+
+    fn eval<V: View>(
+        &mut self,
+        alloc: Global,
+        view: &V,
+        home: Home,
+        text: ExprNo,
+        reads: &mut Vec<CellNo>,
+        steps: &mut Steps<L>,
+    ) -> Evaluated {
+        match directly(alloc, view, self.code, home, text, reads) {
+            Some(answer) => {
+                steps.tick();
+                answer
+            }
+            None => self.eval_in_room(alloc, view, home, text, reads, steps),
+        }
     }
 }

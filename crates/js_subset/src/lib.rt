@@ -7,6 +7,7 @@
 mod assigning;
 mod binding;
 mod calling;
+mod directly;
 mod evaluating;
 mod running;
 mod starting;

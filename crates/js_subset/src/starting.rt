@@ -1,6 +1,6 @@
 //! What whole texts begin with.
 
-ghost use Rattle.std.specs.Prelude.{◌≡◌, ◌∷◌, [], IfOk};
+ghost use Rattle.std.specs.Prelude.{◌≡◌, ◌∷◌, [], IfOk, IfSome};
 ghost use Rattle.qml_syntax.specs.Opened.{node_of};
 ghost use Rattle.js_meaning.specs.Locals.{lets_of, vars_of_all};
 ghost use Rattle.js_locals.specs.Laid.{laid, is_expr_node, stmts_in};
@@ -29,6 +29,20 @@ fn kind_of(node: &Node) -> Kind
         Node::Body | Node::Binding(_) => Kind::Body,
         Node::Document | Node::Script(_) => Kind::File,
         _ => Kind::Other,
+    }
+}
+
+/// Where a text begins that is an expression, or a statement of one alone.
+#[inline]
+#[tactic(auto, using(js_frames::proofs::StartLemmas::expression_starts, js_frames::proofs::StartLemmas::statement_starts))]
+pub(crate) fn begins_at(tree: &Tree, at: usize) -> Option<usize>
+    ensures { IfSome result (λ first. Starts (laid tree.now) at [] (Next.Begin first)) }
+{
+    let node = node_at(tree, at)?;
+    match kind_of(node) {
+        Kind::Expression => Some(at),
+        Kind::Statement => first_part(tree, at),
+        Kind::Body | Kind::File | Kind::Other => None,
     }
 }
 

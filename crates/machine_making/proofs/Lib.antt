@@ -1,3 +1,3 @@
-mod OwnerLemmas
-mod AddLemmas
-mod MakesLemmas
+pub mod OwnerLemmas
+pub mod AddLemmas
+pub mod MakesLemmas

@@ -24,31 +24,31 @@ use Rattle.machine_model.specs.Making.{object_made, objects_made, cells_made, ty
 use Rattle.machine_making.specs.Adding.{objects_added, cells_added, types_added, made_told}
 use Rattle.machine_making.specs.Makes.{machine_with, IsTheMachines}
 
-objects_same : (origin : Option ObjNo) (n : ℕ) (xs : List MadeObject) → objects_added origin n (map looks_of xs) ≡ objects_made origin n xs
+pub objects_same : (origin : Option ObjNo) (n : ℕ) (xs : List MadeObject) → objects_added origin n (map looks_of xs) ≡ objects_made origin n xs
 objects_same origin n [] = refl
 objects_same origin n (x ∷ xs) = ap (λ rest. object_made origin n x ∷ rest) (objects_same origin (suc n) xs)
 
-cells_same : (n : ℕ) (xs : List MadeObject) → cells_added n (map looks_of xs) ≡ cells_made n xs
+pub cells_same : (n : ℕ) (xs : List MadeObject) → cells_added n (map looks_of xs) ≡ cells_made n xs
 cells_same n [] = refl
 cells_same n (x ∷ xs) = ap (λ rest. new_cells (object_no n) 0 (map cell_made x.cells) ++ rest) (cells_same (suc n) xs)
 
-types_same : (n : ℕ) (xs : List MadeObject) → types_added n (map looks_of xs) ≡ types_made n xs
+pub types_same : (n : ℕ) (xs : List MadeObject) → types_added n (map looks_of xs) ≡ types_made n xs
 types_same n [] = refl
 types_same n (x ∷ xs) = ap (λ rest. (object_no n, x.types) ∷ rest) (types_same (suc n) xs)
 
-told_same : (n : ℕ) (xs : List MadeObject) (m : Machine) → each tell_made (numbered_from n xs) m ≡ goes tt (record m { trace = m.trace ++ made_told n (map looks_of xs) })
+pub told_same : (n : ℕ) (xs : List MadeObject) (m : Machine) → each tell_made (numbered_from n xs) m ≡ goes tt (record m { trace = m.trace ++ made_told n (map looks_of xs) })
 told_same n [] m = ap (λ ts. goes tt (record m { trace = ts })) (sym (append-nil m.trace))
 told_same n (x ∷ xs) m =
     told_same (suc n) xs (record m { trace = m.trace ++ made_entry (object_no n, x) ∷ [] })
     ∙ ap (λ ts. goes tt (record m { trace = ts })) (append_assoc m.trace (made_entry (object_no n, x) ∷ []) (made_told (suc n) (map looks_of xs)))
 
-tree_is : (t : Tree) (os : List Object) (cs : List Cell) → t.objects ≡ os → t.cells ≡ cs → record { objects = os; cells = cs } ≡ t
+pub tree_is : (t : Tree) (os : List Object) (cs : List Cell) → t.objects ≡ os → t.cells ≡ cs → record { objects = os; cells = cs } ≡ t
 tree_is t os cs e f = ap (λ xs. record { objects = xs; cells = cs }) (sym e) ∙ ap (λ xs. record { objects = t.objects; cells = xs }) (sym f)
 
-known_is : (k : Known) (ss : List Shape) (ts : List (ObjNo × List TypeRef)) → k.instances ≡ ss → k.told ≡ ts → record { instances = ss; told = ts } ≡ k
+pub known_is : (k : Known) (ss : List Shape) (ts : List (ObjNo × List TypeRef)) → k.instances ≡ ss → k.told ≡ ts → record { instances = ss; told = ts } ≡ k
 known_is k ss ts e f = ap (λ xs. record { instances = xs; told = ts }) (sym e) ∙ ap (λ xs. record { instances = k.instances; told = xs }) (sym f)
 
-with_all : (m : Machine) (planned : List Planned) (new : Live) (longer : List Entry) (t : Tree) (n : ℕ) (k : Known) (ts : List Entry) → t ≡ new.tree → n ≡ new.given → k ≡ new.known → ts ≡ longer
+pub with_all : (m : Machine) (planned : List Planned) (new : Live) (longer : List Entry) (t : Tree) (n : ℕ) (k : Known) (ts : List Entry) → t ≡ new.tree → n ≡ new.given → k ≡ new.known → ts ≡ longer
     → record m { tree = t; given = n; known = k; written = m.written ++ planned; trace = ts } ≡ machine_with m planned new longer
 with_all m planned new longer t n k ts e f g h =
     ap (λ x. record m { tree = x; given = n; known = k; written = m.written ++ planned; trace = ts }) e

@@ -18,7 +18,7 @@ use Rattle.tree_model.specs.declared.cells.Report.{Report}
 use Rattle.tree_model.specs.Systems.{Outcomes}
 use Rattle.tree_model.specs.Rules.{World}
 use Rattle.tree_model.specs.Settling.{Tree, fresh, settled, with_cells, NonePast, Fresh, IsLowestPast}
-use Rattle.tree_model.specs.Telling.{Changes, Reports, none, same, other, told_of, no_report, kept, silent, told}
+use Rattle.tree_model.specs.Telling.{Changes, Reports, none, same, other, told_of, no_report, kept, silent, reported}
 use Rattle.tree_model.proofs.SettlingLemmas.{settled_fresh}
 use Rattle.machine_model.specs.Settling.{Settled, cause_number, is_changed, changed_of, was_told, report_of, reports_of, same_report, is_past, lowest_past, settled_unless, settled_of}
 
@@ -200,7 +200,7 @@ reports_is (b ∷ olds) (a ∷ news) rs (kept e rest) =
     reports_is olds news rs rest
 reports_is (b ∷ olds) (a ∷ news) rs (silent e rest) =
     ap (λ t. report_of a (told_of b.outcome) t (reports_of olds news)) e ∙ reports_is olds news rs rest
-reports_is (b ∷ olds) (a ∷ news) (r ∷ rs) (told {rs = xs} {what = what} f e rest) =
+reports_is (b ∷ olds) (a ∷ news) (r ∷ rs) (reported {rs = xs} {what = what} f e rest) =
     ap (λ t. report_of a (told_of b.outcome) t (reports_of olds news)) e ∙
     if_not (was_told what (told_of b.outcome)) (reports_of olds news) (record { cell = a.no; cause = what } ∷ reports_of olds news) (new_report b a what f e) ∙
     ap (λ rest. record { cell = a.no; cause = what } ∷ rest) (reports_is olds news xs rest)

@@ -2,7 +2,10 @@
 
 ghost use Rattle.std.specs.Prelude.{◌≡◌, IfOk};
 ghost use Rattle.tree_model.specs.Settling.{held_at, place_of};
-ghost use Rattle.live_tree.specs.Live.{HasCell};
+ghost use Rattle.qml_base.specs.declared.numbers.ExprNo.{ExprNo};
+ghost use Rattle.qml_base.specs.declared.names.Home.{Home};
+ghost use Rattle.evaluation.specs.Ask.{Ask};
+ghost use Rattle.live_tree.specs.Live.{HasCell, Knows};
 ghost use Rattle.machine_model.specs.State.{Machine};
 ghost use Rattle.machine_steps.specs.Writing.{PutsIn};
 
@@ -21,6 +24,7 @@ pub fn put(tree: &mut LiveTree, c: CellNo, content: Content)
     ensures puts { (m : Machine) → PutsIn m tree.old tree.new c content }
     ensures given { tree.new.given ≡ tree.old.given }
     ensures known { tree.new.known ≡ tree.old.known }
+    ensures knows { (asks : ExprNo → Home → Ask) → Knows asks tree.old → Knows asks tree.new }
 {
     tree.put(c, content);
 }
