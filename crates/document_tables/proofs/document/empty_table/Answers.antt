@@ -1,6 +1,7 @@
-use Rattle.std.proofs.Common.{◌∙◌, ap, sym, subst, map, [], ◌∷◌, ◌++◌, None}
+use Rattle.std.proofs.Common.{◌∙◌, ap, sym, subst, map, List, [], ◌∷◌, ◌++◌, None}
 use Rattle.program_names.specs.Paths.{directory_of}
 use Rattle.program_names.specs.Loaded.{unit_of}
+use Rattle.document_rows.specs.declared.rows.ObjectRow.{ObjectRow}
 use Rattle.read_order.specs.Order.{file_of}
 use Rattle.program_tables.specs.Building.{nothing_declared, rows_added}
 use Rattle.document_tables.specs.Tables.{TableOf}
@@ -17,5 +18,5 @@ returns c s e =
     ap (λ rs. rows_added 0 [] rs (map nothing_declared c.deref-2.result.now)) (c.deref-3.ensures.value ∙ c.new-rows.ensures.items) ∙
     ap (λ bs. rows_added 0 [] [] (map nothing_declared bs))
     (c.deref-2.ensures.value ∙ c.in_ok-push.ensures.items ∙ ap (λ xs. xs ++ c.in_ok-base.base ∷ []) c.new-bases.ensures.items))
-    (c.in_ok-push-2.ensures.items ∙ ap (λ xs. xs ++ record { node = 0; row = None } ∷ []) c.new-objects.ensures.items)
+    (c.in_ok-push-2.ensures.items ∙ ap (λ (xs : List ObjectRow). xs ++ record { node = 0; row = None } ∷ []) c.new-objects.ensures.items)
     s e))
