@@ -136,7 +136,7 @@ ids_long us n (s ∷ sources) (y ∷ ids) a = ap suc (ids_long us (suc n) source
 
 -- ---- a file that is no document
 
-zero_either : (b : Bool) → (if b then 0 else 0) ≡ 0
+zero_either : (b : Bool) → Path ℕ (if b then 0 else 0) 0
 zero_either true = refl
 zero_either false = refl
 
