@@ -1,10 +1,11 @@
 //! The calls of the store without clauses, and the cells that tests begin with.
 
 use property_store::Store;
-use qml_base::{CellNo, NoMemory, ObjNo};
+use qml_base::{CellNo, ObjNo};
 use qml_types::PropKind;
 use qml_value::{Num, Value};
-use std::alloc::{AllocFailed, Global};
+use std::alloc::Global;
+use std::test::Fail;
 use tree_model::{Content, NewCell, Outcome};
 
 /// The cell of object 1 at the place.
@@ -19,33 +20,31 @@ pub fn number(n: u32) -> Value {
     Value::Num(Num::small(n))
 }
 
-/// Two cells of any kind: the first is plain, the second contains and holds these.
-pub fn cells(
-    alloc: Global,
-    content: Value,
-    held: Value,
-) -> Result<Vec<NewCell>, AllocFailed<NewCell>> {
+/// A store of one cell of any kind, which contains 1.
+pub fn one_cell(alloc: Global) -> Result<Store, Fail> {
     let mut cells = Vec::new(alloc);
     cells.push(NewCell {
         kind: PropKind::Var,
         content: Content::Plain(number(1)),
         held: Value::Undefined,
     })?;
+    let mut store = Store::new(alloc);
+    store.add_cells(ObjNo(1), cells)?;
+    Ok(store)
+}
+
+/// A store of one cell of any kind, which contains and holds these, once object 2 is gone.
+pub fn scrubbed(alloc: Global, content: Value, held: Value) -> Result<Store, Fail> {
+    let mut cells = Vec::new(alloc);
     cells.push(NewCell {
         kind: PropKind::Var,
         content: Content::Plain(content),
         held,
     })?;
-    Ok(cells)
-}
-
-pub fn add(store: &mut Store, cells: Vec<NewCell>) -> Result<(), NoMemory> {
-    store.add_cells(ObjNo(1), cells)
-}
-
-/// Makes null of all that names object 2.
-pub fn scrub(store: &mut Store) {
+    let mut store = Store::new(alloc);
+    store.add_cells(ObjNo(1), cells)?;
     store.scrub(&[ObjNo(2)]);
+    Ok(store)
 }
 
 pub fn noted(store: &Store, from: usize) -> Option<(usize, CellNo)> {

@@ -1,6 +1,6 @@
 //! References to an object that goes, inside lists and fields, in what a cell contains and in what it holds.
 
-use crate::calls::{add, cell, cells, clear_notes, noted, scrub};
+use crate::calls::{cell, clear_notes, noted, scrubbed};
 use property_store::Store;
 use qml_base::{CellNo, ObjNo};
 use qml_text::Text;
@@ -57,14 +57,12 @@ fn contains_null(store: &Store, c: CellNo, name: &Text) -> bool {
 fn scrubs(rt: &impl Abort, alloc: Global) -> Result<(), Fail> {
     let content = listed(alloc, fields(alloc, b"a")?)?;
     let held = listed(alloc, fields(alloc, b"a")?)?;
-    let mut store = Store::new(alloc);
-    add(&mut store, cells(alloc, content, held)?)?;
-    scrub(&mut store);
+    let mut store = scrubbed(alloc, content, held)?;
     let name = Text::from_latin1(alloc, b"a")?;
-    assert!(rt; holds_null(&store, cell(1), &name));
-    assert!(rt; contains_null(&store, cell(1), &name));
-    assert_eq!(rt; noted(&store, 0), Some((1, cell(1))));
-    assert_eq!(rt; noted(&store, 2), None);
+    assert!(rt; holds_null(&store, cell(0), &name));
+    assert!(rt; contains_null(&store, cell(0), &name));
+    assert_eq!(rt; noted(&store, 0), Some((0, cell(0))));
+    assert_eq!(rt; noted(&store, 1), None);
     clear_notes(&mut store);
     assert_eq!(rt; noted(&store, 0), None);
     Ok(())
