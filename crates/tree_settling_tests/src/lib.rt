@@ -1,0 +1,9 @@
+//! Tests of settling, where there is memory: what small trees hold and what is told of them.
+#![tactic(auto)]
+
+#[cfg(test)]
+mod built_in;
+#[cfg(test)]
+mod limit;
+#[cfg(test)]
+mod values;
