@@ -184,7 +184,7 @@ behind_whole k l rs ls = passed l (passed k (without_node (at_first rs ls)))
 pub whole_moves : (w : World) (c : Laid) (h : Home) (at : ℕ) (k l : Option CellNo) (v : Value) (rs : List CellNo) (ls : List Local)
     → WholeShows w c h ls at k l v → MovesAt w c h (at_first rs ls) (next.Begin at) (behind_whole k l rs ls) (next.Back v)
 whole_moves w c h at k l v rs ls s =
-    pair_moves w c h at s.0 k l v (at_first rs ls) (behind_whole k l rs ls) (next.Back v) s.1 s.2 (omega arith) (inl (s.3, (refl, refl)))
+    pair_moves w c h at s.0 k l v (at_first rs ls) (behind_whole k l rs ls) (next.Back v) s.1 s.2 (omega arith) (inl (s.3, refl, refl))
 
 -- ---- choices
 

@@ -1,4 +1,4 @@
 pub mod RowLemmas
-mod SayLemmas
+pub mod SayLemmas
 mod TakenLemmas
 pub mod PassLemmas

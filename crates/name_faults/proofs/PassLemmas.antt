@@ -112,7 +112,7 @@ roles_again seen [] = []
 roles_again seen (a_value at (n ∷ []) v ∷ rest) = fault_if (is_in n seen) at cause.DuplicateName ++ roles_again (n ∷ seen) rest
 roles_again seen (m ∷ rest) = roles_again seen rest
 
-none_in_both : {X Y : Type 0} (xs : List X) (ys : List Y) (d : ℕ) → length xs ≡ length ys → slice_get xs d ≡ None → Path (Option Y) (slice_get ys d) None
+pub none_in_both : {X Y : Type 0} (xs : List X) (ys : List Y) (d : ℕ) → length xs ≡ length ys → slice_get xs d ≡ None → Path (Option Y) (slice_get ys d) None
 none_in_both [] [] d e h = refl
 none_in_both [] (y ∷ ys) d e h = absurd (omega arith)
 none_in_both (x ∷ xs) [] d e h = absurd (omega arith)

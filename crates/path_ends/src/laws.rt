@@ -5,7 +5,7 @@ ghost use Rattle.std.specs.List.{sum_by};
 ghost use Rattle.program_names.specs.Written.{OwnedMember};
 ghost use Rattle.program_names.specs.Loaded.{Program, unit_at};
 ghost use Rattle.program_names.specs.Components.{Roots};
-ghost use Rattle.program_names.specs.PathMeanings.{SeenObject, at_object, end_of, end_of_alias};
+ghost use Rattle.program_names.specs.PathMeanings.{SeenObject, at_object, aliases_of_unit, end_of, end_of_alias};
 ghost use Rattle.program_tables.specs.declared.names.UnitNames as n;
 ghost use Rattle.program_tables.specs.Stands.{is_there};
 ghost use Rattle.path_ends.specs.declared.aliases.Alias as a;

@@ -19,7 +19,7 @@ use Rattle.qml_types.specs.declared.kind.TypeRef.TheVariants.{Document as OfDocu
 use Rattle.program_names.specs.Names.{changed}
 use Rattle.program_names.specs.Written.{WrittenMember, WrittenValue, a_property, an_id, an_alias, a_signal, a_function, OwnedMember}
 use Rattle.program_names.specs.Loaded.{Program, unit_at, object_at, type_of_object, kind_named}
-use Rattle.program_names.specs.Layers.{DefaultProperty, of_object, cells_of_layer, own_names, NameMeaning, a_cell, a_signal_of, a_function_of, an_alias_of, access_of, Named, meaning_in, names_of_member, cells_of_member, names_of_members, cells_of_members}
+use Rattle.program_names.specs.Layers.{DefaultProperty, of_object, cells_of_layer, own_names, NameMeaning, a_cell, a_signal_of, a_function_of, an_alias_of, access_of, meaning_in, names_of_member, cells_of_member, names_of_members, cells_of_members}
 use Rattle.document_rows.specs.WholePaths.{path_at}
 use Rattle.document_rows.specs.WrittenObjects.{kept, members_of_object}
 use Rattle.document_members.specs.declared.member.Member.{Member}
@@ -38,6 +38,7 @@ use Rattle.program_tables.specs.Building.{nothing_declared, is_default, with_nam
 use Rattle.program_tables.specs.RowsSay.{SaysKind, SaysRow, RowsSay, UnitSays}
 use Rattle.program_tables.proofs.NameLemmas.{in_both, under_put, or_assoc, eq_either_way}
 use Rattle.program_tables.proofs.GroupLemmas.{is_filled, inside_alike, filled_by}
+use Rattle.program_tables.proofs.MeaningLemmas.{named}
 
 -- ---- one object
 
@@ -100,9 +101,6 @@ none_more (Some x) = refl
 view_or : (p : Program) (u o : ℕ) (a b : Option Declared) → view p u o (option_or a b) ≡ option_or (view p u o a) (view p u o b)
 view_or p u o None b = refl
 view_or p u o (Some a) b = refl
-
-abbrev named : Units → Place → NameMeaning → Named
-named name at what = record { name = name; at = at; what = what }
 
 put_means : (p : Program) (u o : ℕ) (names : List (Units × Declared)) (n : Units) (x : Declared) (at : Place) (what : NameMeaning) (name : Units) → meant p (meaning_of u o x) ≡ what
     → view p u o (under (put names n x) name) ≡ option_or (view p u o (under names name)) (meaning_in (named n at what ∷ []) name)

@@ -6,6 +6,7 @@ use Rattle.std.specs.Str.{bytes_eq}
 use Rattle.std.proofs.lemmas.Bool.{false≢true}
 use Rattle.name_table.specs.Named.{under}
 use Rattle.qml_base.specs.declared.numbers.UnitNo.{UnitNo}
+use Rattle.qml_base.specs.declared.numbers.Place.{Place}
 use Rattle.std.proofs.lemmas.List.{map-append}
 use Rattle.program_tables.specs.declared.built_in.BuiltInName.{BuiltInName}
 use Rattle.std.specs.List.{flat_map}
@@ -30,6 +31,9 @@ use Rattle.program_tables.specs.Stands.{meant, is_there, Stands}
 use Rattle.program_tables.proofs.NameLemmas.{in_both, built_in_means}
 
 -- ---- the definitions of names layer by layer, by the words that they are made of
+
+abbrev pub named : Units → Place → NameMeaning → Named
+named name at what = record { name = name; at = at; what = what }
 
 abbrev names_from : Program → ℕ → List Layer → List Named
 names_from p place [] = []
