@@ -2,8 +2,6 @@
 #![tactic(auto)]
 
 #[cfg(test)]
-mod built_in;
-#[cfg(test)]
 mod limit;
 #[cfg(test)]
 mod values;

@@ -60,23 +60,30 @@ fn writes<L: Ledger>(rt: &impl Abort, alloc: Global, steps: &mut Steps<L>) -> Re
     let told = settle(alloc, &mut tree, steps)?;
     assert!(rt; tells(&told, &[cell(1, 0), cell(1, 1), cell(1, 2)], &[]));
     assert_eq!(rt; held(&tree, cell(1, 0)), Some(8));
+    Ok(())
+}
+
+fn puts_back<L: Ledger>(rt: &impl Abort, alloc: Global, steps: &mut Steps<L>) -> Result<(), Fail> {
+    let mut tree = example(alloc)?;
+    settle(alloc, &mut tree, steps)?;
     assert!(rt; put_back(&mut tree, cell(1, 2)));
     let told = settle(alloc, &mut tree, steps)?;
     assert!(rt; tells(&told, &[], &[]));
     Ok(())
 }
 
-fn both<L: Ledger>(rt: &impl Abort, alloc: Global, blank: Blank) -> Result<(), Fail>
+fn all<L: Ledger>(rt: &impl Abort, alloc: Global, blank: Blank) -> Result<(), Fail>
     requires name { blank.name ≡ L.name }
     requires parts { blank.parts ≡ L.parts }
     requires some { 0 < L.parts }
 {
     let mut steps = Steps::<L>::new(blank);
     settles(rt, alloc, &mut steps)?;
-    writes(rt, alloc, &mut steps)
+    writes(rt, alloc, &mut steps)?;
+    puts_back(rt, alloc, &mut steps)
 }
 
 #[test]
 fn values_settle(rt: HostRuntime) -> Result<(), Fail> {
-    both::<Brand>(&rt, rt.alloc(), Blank::new(1))
+    all::<Brand>(&rt, rt.alloc(), Blank::new(1))
 }

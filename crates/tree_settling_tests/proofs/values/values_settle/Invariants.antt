@@ -1,4 +1,4 @@
 use Rattle.tree_settling_tests.proofs.values.values_settle.Given as goal
 
-abbrev pub ghosts-both : goal.ghosts-both
-ghosts-both g a = record { name = a.blank.name; parts = a.blank.parts }
+abbrev pub ghosts-all : goal.ghosts-all
+ghosts-all g a = record { name = a.blank.name; parts = a.blank.parts }
