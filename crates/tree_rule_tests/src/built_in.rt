@@ -4,6 +4,7 @@ ghost use Rattle.std.specs.Prelude.{◌≡◌, ◌<◌};
 
 use copy_trees::calls::{add, empty, held, settle};
 use copy_trees::given::{Given, cell, cells};
+use live_tree::LiveTree;
 use qml_base::{ObjNo, Steps};
 use std::alloc::Global;
 use std::marker::Brand;
@@ -36,19 +37,32 @@ const fn item(o: u32, parent: Given, shown: bool) -> [Given; 17] {
     ]
 }
 
-fn rules<L: Ledger>(rt: &impl Abort, alloc: Global, steps: &mut Steps<L>) -> Result<(), Fail> {
-    let first = cells(alloc, &item(1, Given::Null, false))?;
-    let second = cells(alloc, &item(2, Given::Object(1), true))?;
+/// Two Items, the second in the first, which isn't shown.
+fn example(alloc: Global) -> Result<LiveTree, Fail> {
     let mut tree = empty(alloc);
+    let first = cells(alloc, &item(1, Given::Null, false))?;
     add(alloc, &mut tree, 0, first)?;
+    let second = cells(alloc, &item(2, Given::Object(1), true))?;
     add(alloc, &mut tree, 1, second)?;
+    Ok(tree)
+}
+
+/// Whether the cell holds the number, or tells false (0) or true (1).
+fn holds(tree: &LiveTree, object: u32, place: u32, n: i64) -> bool {
+    held(tree, cell(object, place)) == Some(n)
+}
+
+/// Whether neither Item is shown, and both take input.
+fn shows(tree: &LiveTree) -> bool {
+    holds(tree, 1, 7, 0) && holds(tree, 2, 7, 0) && holds(tree, 1, 9, 1) && holds(tree, 2, 9, 1)
+}
+
+fn rules<L: Ledger>(rt: &impl Abort, alloc: Global, steps: &mut Steps<L>) -> Result<(), Fail> {
+    let mut tree = example(alloc)?;
     settle(alloc, &mut tree, steps)?;
-    assert_eq!(rt; held(&tree, cell(1, 7)), Some(0));
-    assert_eq!(rt; held(&tree, cell(1, 9)), Some(1));
-    assert_eq!(rt; held(&tree, cell(2, 7)), Some(0));
-    assert_eq!(rt; held(&tree, cell(2, 9)), Some(1));
-    assert_eq!(rt; held(&tree, cell(2, 15)), Some(3));
-    assert_eq!(rt; held(&tree, cell(2, 16)), Some(5));
+    assert!(rt; shows(&tree));
+    assert!(rt; holds(&tree, 2, 15, 3));
+    assert!(rt; holds(&tree, 2, 16, 5));
     Ok(())
 }
 
