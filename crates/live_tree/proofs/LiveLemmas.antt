@@ -119,7 +119,7 @@ pub mapped_below : (f : Cell → Cell) → ((cell : Cell) → (f cell).no ≡ ce
 mapped_below f same n cells all = rw (map_numbers f same cells) all
 
 -- ---- room for one more
-pub not_full : (t : Objects) → ¬ (IsFull t) → (length t.objects < 100000) × (1 + t.given < 2 ^ 32)
+pub not_full : (t : Objects) → ¬ (IsFull t.objects t.given) → (length t.objects < 100000) × (1 + t.given < 2 ^ 32)
 not_full t h = (by_live (cases_lt (length t.objects) 100000), by_given (cases_lt (1 + t.given) (2 ^ 32)))
   where
     by_live : (length t.objects < 100000) ⊎ (100000 ≤ length t.objects) → length t.objects < 100000

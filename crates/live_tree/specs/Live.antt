@@ -57,7 +57,7 @@ Replaces old c content new =
 
 -- no object may be added
 abbrev pub IsFullTree : Live → Type 0
-IsFullTree live = IsFull (record { objects = live.tree.objects; given = live.given })
+IsFullTree live = IsFull live.tree.objects live.given
 
 -- what an addition answers: the object and its cells stand behind the others, its types are told, and nothing else is changed;
 -- or nothing is

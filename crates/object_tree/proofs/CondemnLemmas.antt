@@ -1,7 +1,6 @@
 -- Condemning an object that stands: it is marked first, and what hangs on marked ones then.
-use Rattle.std.proofs.Common.{◌≡◌, ◌∙◌, inl, ap, sym, subst, refl, ℕ, zero, suc, ◌-◌, ◌<◌, ◌≤◌, ◌↔◌, add-one, true, false, List, [], ◌∷◌, ◌++◌, length, slice_get, slice_set, slice_index, arith}
+use Rattle.std.proofs.Common.{◌≡◌, ◌∙◌, inl, ap, sym, subst, refl, ℕ, zero, suc, ◌-◌, ◌<◌, ◌↔◌, true, false, List, [], ◌∷◌, ◌++◌, length, slice_get, slice_set, slice_index, arith}
 use Rattle.std.specs.List.Sorted.{IsPermutation}
-use Rattle.std.proofs.lemmas.List.Sorted.{IsPermutation-trans, IsPermutation-sym}
 use Rattle.std.specs.declared.option.Option.TheVariants.{Some}
 use Rattle.qml_base.specs.declared.numbers.ObjNo.{ObjNo}
 use Rattle.tree_model.specs.declared.cells.Object.{Object}
@@ -10,13 +9,9 @@ use Rattle.tree_model.specs.Removing.{doomed_of}
 use Rattle.tree_model.specs.Settling.{stands}
 use Rattle.object_tree.specs.Trees.{IsAt}
 use Rattle.object_tree.specs.Spreading.{condemned_one, Spreads, no_more, one_more, Covers, IsWhole}
-use Rattle.object_tree.proofs.KeepLemmas.{doomed_ascend}
-use Rattle.object_tree.proofs.ListedLemmas.{standing_there, stands_at, not_true, not_false, all_marked, ascend_get, spread_permutes, listed_is}
-use Rattle.object_tree.proofs.SpreadLemmas.{spread_is, spread_mark, spread_ordered, spread_on, spread_covers, spread_begins, mark_of, set_there}
+use Rattle.object_tree.proofs.ListedLemmas.{standing_there, stands_at, not_true, not_false, permuted_marked, spread_permutes}
+use Rattle.object_tree.proofs.SpreadLemmas.{spread_is, spread_mark, spread_ordered, spread_on, spread_covers, mark_of, set_there}
 use Rattle.tree_model.proofs.DoomLemmas.{marks_doomed}
-use Rattle.object_tree.specs.Ordering.{Ascends, AscendsBefore}
-use Rattle.object_tree.proofs.OrderLemmas.{longer}
-use Rattle.object_tree.proofs.StepLemmas.{listed_there, same_listed}
 
 -- an object that stands nowhere, or is condemned, changes nothing
 pub none_standing : (o : ObjNo) (xs : List Object) → IsOrdered 0 xs → stands xs o ≡ false → IsWhole xs → xs ≡ marked_from o [] xs
@@ -52,9 +47,9 @@ module _ (o : ObjNo) (xs ys : List Object) (ds es : List ObjNo) (at : ℕ) (x : 
       ap (is_marked ys) (sym number) ∙ mark_of o xs ds 0 ys at (condemned_one x) later is
 
   -- what was listed before is covered
-  pub begun_covered : IsOrdered 0 xs → IsWhole xs → ds ≡ doomed_of xs → (k : ℕ) (p : ObjNo) → k < length ds → slice_get es k ≡ Some p → Covers ys p
+  pub begun_covered : IsOrdered 0 xs → IsWhole xs → IsPermutation ds (doomed_of xs) → (k : ℕ) (p : ObjNo) → k < length ds → slice_get es k ≡ Some p → Covers ys p
   begun_covered ordered whole listed k p low e =
-      spread_covers o xs ds ys es p begins (whole p (all_marked 0 xs ordered k p (ap (λ (ns : List ObjNo). slice_get ns k) (sym listed) ∙ earlier ds k low (ap (λ (ns : List ObjNo). slice_get ns k) (sym then') ∙ e))))
+      spread_covers o xs ds ys es p begins (whole p (permuted_marked xs ds ordered listed k p (earlier ds k low (ap (λ (ns : List ObjNo). slice_get ns k) (sym then') ∙ e))))
     where
       earlier : (ns : List ObjNo) (k : ℕ) → k < length ns → slice_get (ns ++ x.number ∷ []) k ≡ Some p → slice_get ns k ≡ Some p
       earlier [] k low e = absurd (omega arith)
@@ -62,7 +57,7 @@ module _ (o : ObjNo) (xs ys : List Object) (ds es : List ObjNo) (at : ℕ) (x : 
       earlier (n ∷ ns) (suc k) low e = earlier ns k (omega arith) e
 
 -- the whole of it
-module _ (o : ObjNo) (xs ys zs : List Object) (ds es fs : List ObjNo) (ordered : IsOrdered 0 xs) (listed : ds ≡ doomed_of xs) (first : Spreads o xs ds ys es) (marked : is_marked ys o ≡ true) (rest : Spreads o ys es zs fs) (whole : IsWhole zs) where
+module _ (o : ObjNo) (xs ys zs : List Object) (ds es fs : List ObjNo) (ordered : IsOrdered 0 xs) (listed : IsPermutation ds (doomed_of xs)) (first : Spreads o xs ds ys es) (marked : is_marked ys o ≡ true) (rest : Spreads o ys es zs fs) (whole : IsWhole zs) where
   pub all_spreads : Spreads o xs ds zs fs
   all_spreads = spread_on o xs ds ys es zs fs first rest
 
@@ -73,25 +68,9 @@ module _ (o : ObjNo) (xs ys zs : List Object) (ds es fs : List ObjNo) (ordered :
   condemn_marks = spread_is o xs ds zs fs ordered all_spreads whole (λ j y at e.
       sym (mark_of o xs ds 0 zs j y end_ordered at) ∙ ap (is_marked zs) e ∙ spread_mark o ys es zs fs rest o marked)
 
-  permutes : IsPermutation fs (doomed_of zs)
-  permutes = spread_permutes o xs zs fs (subst (λ (ns : List ObjNo). Spreads o xs ns zs fs) listed all_spreads)
-
-  -- those that were listed before stand in front, in order
-  kept : (k : ℕ) (a : ObjNo) → k < length ds → slice_get fs k ≡ Some a → slice_get (doomed_of xs) k ≡ Some a
-  kept k a low e =
-      let was = listed_there ds k low in
-      let is : was.number ≡ a = same_listed fs k was.number a (spread_begins o xs ds zs fs all_spreads k was.number was.there) e in
-      ap (λ (ns : List ObjNo). slice_get ns k) (sym listed) ∙ was.there ∙ ap Some is
-
-  pub condemn_front : AscendsBefore (length ds) fs
-  condemn_front k a b low e f = ascend_get 0 (doomed_of xs) k a b (doomed_ascend 0 xs ordered) (kept k a (omega arith) e) (kept (suc k) b (omega arith) (ap (slice_get fs) (sym (add-one k)) ∙ f))
-
-  pub condemn_longer : length es ≤ length fs
-  condemn_longer = longer o ys es zs fs rest
-
-  -- what was put in order is the list of the condemned
-  pub condemn_sorted : (gs : List ObjNo) → IsPermutation fs gs → Ascends gs → gs ≡ doomed_of zs
-  condemn_sorted gs sorted ascends = listed_is zs gs end_ordered (IsPermutation-trans gs fs (doomed_of zs) (IsPermutation-sym fs gs sorted) permutes) (λ k a b e f. ascends k a b e (ap (slice_get gs) (add-one k) ∙ f))
+  -- what was listed and what was marked now are the condemned
+  pub condemn_listed : IsPermutation fs (doomed_of zs)
+  condemn_listed = spread_permutes o xs ds zs fs listed all_spreads
 
   pub condemn_least : (x : Object) → Stands x xs → (is_marked zs x.number ≡ true) ↔ Doomed xs (Begins o) x
   condemn_least x stands = rw condemn_marks (marks_doomed o xs ordered x stands)

@@ -3,8 +3,7 @@ use Rattle.std.proofs.Common.{◌≡◌, ap, refl, ℕ, ◌<◌, nat_eq, not, Bo
 use Rattle.qml_base.specs.declared.numbers.ObjNo.{ObjNo}
 use Rattle.tree_model.specs.declared.cells.Object.{Object}
 use Rattle.tree_model.specs.Doomed.{IsOrdered}
-use Rattle.tree_model.specs.Removing.{doomed_of}
-use Rattle.object_tree.specs.Trees.{objects_but, numbers_but, AllUpTo}
+use Rattle.object_tree.specs.Trees.{objects_but, AllUpTo}
 
 pub objects_filter : (o : ObjNo) (xs : List Object) → filter (λ x. not (nat_eq x.number.0 o.0)) xs ≡ objects_but o xs
 objects_filter o [] = refl
@@ -13,24 +12,6 @@ objects_filter o (x ∷ xs) = by_number (nat_eq x.number.0 o.0) refl (objects_fi
     by_number : (b : Bool) → nat_eq x.number.0 o.0 ≡ b → filter (λ x. not (nat_eq x.number.0 o.0)) xs ≡ objects_but o xs → filter (λ x. not (nat_eq x.number.0 o.0)) (x ∷ xs) ≡ (if b then objects_but o xs else x ∷ objects_but o xs)
     by_number true is later = rw is later
     by_number false is later = rw is (ap (λ rest. x ∷ rest) later)
-
-pub numbers_filter : (o : ObjNo) (ns : List ObjNo) → filter (λ n. not (nat_eq n.0 o.0)) ns ≡ numbers_but o ns
-numbers_filter o [] = refl
-numbers_filter o (n ∷ ns) = by_number (nat_eq n.0 o.0) refl (numbers_filter o ns)
-  where
-    by_number : (b : Bool) → nat_eq n.0 o.0 ≡ b → filter (λ n. not (nat_eq n.0 o.0)) ns ≡ numbers_but o ns → filter (λ n. not (nat_eq n.0 o.0)) (n ∷ ns) ≡ (if b then numbers_but o ns else n ∷ numbers_but o ns)
-    by_number true is later = rw is later
-    by_number false is later = rw is (ap (λ rest. n ∷ rest) later)
-
-pub doomed_but : (o : ObjNo) (xs : List Object) → numbers_but o (doomed_of xs) ≡ doomed_of (objects_but o xs)
-doomed_but o [] = refl
-doomed_but o (x ∷ xs) = by_both x.condemned refl (nat_eq x.number.0 o.0) refl (doomed_but o xs)
-  where
-    by_both : (m : Bool) → x.condemned ≡ m → (b : Bool) → nat_eq x.number.0 o.0 ≡ b → numbers_but o (doomed_of xs) ≡ doomed_of (objects_but o xs) → numbers_but o (if m then x.number ∷ doomed_of xs else doomed_of xs) ≡ doomed_of (if b then objects_but o xs else x ∷ objects_but o xs)
-    by_both true mark true is later = rw is later
-    by_both true mark false is later = rw (is, mark) (ap (λ rest. x.number ∷ rest) later)
-    by_both false mark true is later = later
-    by_both false mark false is later = rw mark later
 
 lower : (m n : ℕ) (xs : List Object) → m < n → IsOrdered n xs → IsOrdered m xs
 lower m n [] h ordered = tt

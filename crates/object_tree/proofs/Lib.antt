@@ -10,4 +10,3 @@ pub mod ListedLemmas
 pub mod StepLemmas
 pub mod CondemnLemmas
 pub mod WholeLemmas
-mod OrderLemmas

@@ -1,10 +1,9 @@
--- The list of the marked objects, put in order, is the list of the condemned.
-use Rattle.std.proofs.Common.{◌≡◌, ◌∙◌, ap, sym, subst, refl, ℕ, zero, suc, ◌+◌, ◌<◌, ◌≤◌, Bool, true, false, not, nat_eq, List, [], ◌∷◌, ◌++◌, slice_get, slice_set, slice_index_or, add-one, if◌then◌else◌, is_lt, nat_cmp, rules, arith}
+-- The list of the marked objects has the condemned, in any order.
+use Rattle.std.proofs.Common.{◌≡◌, ◌∙◌, ap, sym, subst, refl, ℕ, zero, suc, ◌+◌, ◌<◌, ◌≤◌, Bool, true, false, not, nat_eq, List, [], ◌∷◌, ◌++◌, slice_get, slice_set, add-one, drop, if◌then◌else◌, arith}
 use Rattle.std.specs.List.{sum_by}
-use Rattle.std.specs.List.Sorted.{IsPermutation, IsSorted}
-use Rattle.std.proofs.lemmas.Option.{slice_get_within}
+use Rattle.std.specs.List.Sorted.{IsPermutation}
 use Rattle.std.proofs.lemmas.List.Sums.{sum_by-cons}
-use Rattle.std.proofs.lemmas.List.Sorted.{IsPermutation-refl, IsPermutation-trans, IsPermutation-append_left, IsPermutation-append_right, IsPermutation-to_front, sum_by-IsPermutation}
+use Rattle.std.proofs.lemmas.List.Sorted.{IsPermutation-sym, IsPermutation-trans, IsPermutation-append_left, IsPermutation-append_right, IsPermutation-to_front, sum_by-IsPermutation}
 use Rattle.std.specs.declared.option.Option.TheVariants.{None, Some}
 use Rattle.qml_base.specs.declared.numbers.ObjNo.{ObjNo}
 use Rattle.tree_model.specs.declared.cells.Object.{Object}
@@ -104,10 +103,7 @@ pub not_false : (b : Bool) → not b ≡ false → b ≡ true
 not_false true e = refl
 not_false false e = let no : true ≡ false = e in cc
 
--- ---- in order there is one list
-abbrev pub Ascends : List ObjNo → Type 0
-Ascends ns = (k : ℕ) (a b : ObjNo) → slice_get ns k ≡ Some a → slice_get ns (suc k) ≡ Some b → a.0 ≤ b.0
-
+-- ---- how often a number is listed
 abbrev one : ObjNo → ObjNo → ℕ
 one p n = if nat_eq n.0 p.0 then 1 else 0
 
@@ -122,49 +118,29 @@ has p (n ∷ ns) h = by_number (nat_eq n.0 p.0) refl (subst (λ k. 1 ≤ k) (sum
     by_number true e h go_on = record { place = 0; there = ap Some (number_is n p e) }
     by_number false e h go_on = let l = go_on (omega arith) in record { place = suc l.place; there = l.there }
 
-first_least : (e : ObjNo) (es : List ObjNo) (k : ℕ) (p : ObjNo) → Ascends (e ∷ es) → slice_get (e ∷ es) k ≡ Some p → e.0 ≤ p.0
-first_least e es zero p all at = let first : e ≡ p = cc in rw first (omega arith)
-first_least e [] (suc k) p all at = let no : None ≡ Some p = at in cc
-first_least e (d ∷ ds) (suc k) p all at =
-    let one = all 0 e d refl refl in
-    let more = first_least d ds k p (λ j a b ata atb. all (suc j) a b ata atb) at in
+counts : (p : ObjNo) (ns : List ObjNo) (k : ℕ) → slice_get ns k ≡ Some p → 1 ≤ sum_by (one p) ns
+counts p [] k e = let no : None ≡ Some p = e in cc
+counts p (n ∷ ns) zero e =
+    let first : n ≡ p = cc in
+    let here : one p n ≡ 1 = ap (one p) first ∙ one_same p in
+    let all : sum_by (one p) (n ∷ ns) ≡ one p n + sum_by (one p) ns = sum_by-cons (one p) n ns in
+    omega arith
+counts p (n ∷ ns) (suc k) e =
+    let all : sum_by (one p) (n ∷ ns) ≡ one p n + sum_by (one p) ns = sum_by-cons (one p) n ns in
+    let rest = counts p ns k e in
     omega arith
 
-ascending_least : (o : ObjNo) (os : List ObjNo) (k : ℕ) (p : ObjNo) (m : ℕ) → AscendsFrom m (o ∷ os) → slice_get (o ∷ os) k ≡ Some p → o.0 ≤ p.0
-ascending_least o os zero p m all at = let first : o ≡ p = cc in rw first (omega arith)
-ascending_least o [] (suc k) p m all at = let no : None ≡ Some p = at in cc
-ascending_least o (q ∷ qs) (suc k) p m all at = let low = all.1.0 in let more = ascending_least q qs k p o.0 all.1 at in omega arith
+-- what is in a list is in it in any order
+moved_in : (p : ObjNo) (ns os : List ObjNo) → IsPermutation ns os → IsListed ns p → IsListed os p
+moved_in p ns os moved l = has p os (subst (λ k. 1 ≤ k) (sym (sum_by-IsPermutation (one p) ns os moved)) (counts p ns l.place l.there))
 
-same_number : (a b : ObjNo) → a.0 ≤ b.0 → b.0 ≤ a.0 → a ≡ b
-same_number a b h k = let same : a.0 ≡ b.0 = omega arith in ap (λ n. record { 0 = n }) same
+pub permuted_marked : (xs : List Object) (ds : List ObjNo) → IsOrdered 0 xs → IsPermutation ds (doomed_of xs) → AllMarked ds xs
+permuted_marked xs ds ordered moved k p at =
+    let l = moved_in p ds (doomed_of xs) moved (record { place = k; there = at }) in
+    all_marked 0 xs ordered l.place p l.there
 
-pub only_one : (m : ℕ) (os es : List ObjNo) → AscendsFrom m os → Ascends es → ((p : ObjNo) → sum_by (one p) es ≡ sum_by (one p) os) → es ≡ os
-only_one m [] [] a s all = refl
-only_one m [] (e ∷ es) a s all =
-    let counts : one e e + sum_by (one e) es ≡ 0 = sym (sum_by-cons (one e) e es) ∙ all e in
-    let self = one_same e in
-    absurd (omega arith)
-only_one m (o ∷ os) [] a s all =
-    let counts : 0 ≡ one o o + sum_by (one o) os = all o ∙ sum_by-cons (one o) o os in
-    let self = one_same o in
-    absurd (omega arith)
-only_one m (o ∷ os) (e ∷ es) a s all =
-    let self_o = one_same o in
-    let self_e = one_same e in
-    let here_o : sum_by (one o) (o ∷ os) ≡ one o o + sum_by (one o) os = sum_by-cons (one o) o os in
-    let here_e : sum_by (one e) (e ∷ es) ≡ one e e + sum_by (one e) es = sum_by-cons (one e) e es in
-    let counts_o = all o in
-    let counts_e = all e in
-    let o_in = has o (e ∷ es) (omega arith) in
-    let e_in = has e (o ∷ os) (omega arith) in
-    let low = first_least e es o_in.place o s o_in.there in
-    let high = ascending_least o os e_in.place e m a e_in.there in
-    let same : e ≡ o = same_number e o low high in
-    let rest : es ≡ os = only_one o.0 os es a.1 (λ k x y atx aty. s (suc k) x y atx aty) (λ p. tail_counts p same (sym (sum_by-cons (one p) e es) ∙ all p ∙ sum_by-cons (one p) o os)) in
-    ap (λ n. n ∷ es) same ∙ ap (λ (ns : List ObjNo). o ∷ ns) rest
-  where
-    tail_counts : (p : ObjNo) → e ≡ o → one p e + sum_by (one p) es ≡ one p o + sum_by (one p) os → sum_by (one p) es ≡ sum_by (one p) os
-    tail_counts p same both = let here : one p e ≡ one p o = ap (one p) same in omega arith
+pub permuted_listed : (xs : List Object) (ds : List ObjNo) → IsPermutation ds (doomed_of xs) → AllListed xs ds
+permuted_listed xs ds moved p m = moved_in p (doomed_of xs) ds (IsPermutation-sym ds (doomed_of xs) moved) (all_listed xs p m)
 
 -- ---- the marked are listed, each once
 one_listed : (xs : List Object) (c : ℕ) (x : Object) → slice_get xs c ≡ Some x → x.condemned ≡ false → IsPermutation (doomed_of xs ++ x.number ∷ []) (doomed_of (slice_set xs c (condemned_one x)))
@@ -176,39 +152,29 @@ one_listed (y ∷ ys) (suc c) x e m = by_mark y.condemned (one_listed ys c x e m
     by_mark true rest = IsPermutation-append_right (y.number ∷ []) (doomed_of ys ++ x.number ∷ []) (doomed_of (slice_set ys c (condemned_one x))) rest
     by_mark false rest = rest
 
-pub spread_permutes : (o : ObjNo) (xs : List Object) (ys : List Object) (es : List ObjNo) → Spreads o xs (doomed_of xs) ys es → IsPermutation es (doomed_of ys)
-spread_permutes o xs ys es (no_more e f) = rw (e, f) (IsPermutation-refl (doomed_of xs))
-spread_permutes o xs ys es (one_more {xs = zs} {ds = ds} c x before there free next e f) =
+pub spread_permutes : (o : ObjNo) (xs : List Object) (old : List ObjNo) (ys : List Object) (es : List ObjNo) → IsPermutation old (doomed_of xs) → Spreads o xs old ys es → IsPermutation es (doomed_of ys)
+spread_permutes o xs old ys es listed (no_more e f) = rw (e, f) listed
+spread_permutes o xs old ys es listed (one_more {xs = zs} {ds = ds} c x before there free next e f) =
     rw (e, f) (IsPermutation-trans (ds ++ x.number ∷ []) (doomed_of zs ++ x.number ∷ []) (doomed_of (slice_set zs c (condemned_one x)))
-    (IsPermutation-append_left (x.number ∷ []) ds (doomed_of zs) (spread_permutes o xs zs ds before))
+    (IsPermutation-append_left (x.number ∷ []) ds (doomed_of zs) (spread_permutes o xs old zs ds listed before))
     (one_listed zs c x there free))
 
-pub listed_is : (ys : List Object) (es : List ObjNo) → IsOrdered 0 ys → IsPermutation es (doomed_of ys) → Ascends es → es ≡ doomed_of ys
-listed_is ys es ordered permutes ascends = only_one 0 (doomed_of ys) es (doomed_ascend 0 ys ordered) ascends (λ p. sym (sum_by-IsPermutation (one p) es (doomed_of ys) permutes))
+-- ---- the list made from the objects
+doomed_first : (xs : List Object) (i : ℕ) (x : Object) → slice_get xs i ≡ Some x → doomed_of (drop i xs) ≡ (if x.condemned then x.number ∷ doomed_of (drop (suc i) xs) else doomed_of (drop (suc i) xs))
+doomed_first [] i x e = let no : None ≡ Some x = e in cc
+doomed_first (y ∷ ys) zero x e = let first : y ≡ x = cc in rw first refl
+doomed_first (y ∷ ys) (suc i) x e = doomed_first ys i x e
 
--- a list that ascends as the condemned objects do, and from there on
-pub ascend_get : (m : ℕ) (ns : List ObjNo) (k : ℕ) (a b : ObjNo) → AscendsFrom m ns → slice_get ns k ≡ Some a → slice_get ns (suc k) ≡ Some b → a.0 ≤ b.0
-ascend_get m [] k a b all e f = let no : None ≡ Some a = e in cc
-ascend_get m (n ∷ []) zero a b all e f = let no : None ≡ Some b = f in cc
-ascend_get m (n ∷ p ∷ ns) zero a b all e f =
-    let first : n ≡ a = cc in
-    let second : p ≡ b = cc in
-    let low = all.1.0 in
-    rw (← first, ← second) (omega arith)
-ascend_get m (n ∷ ns) (suc k) a b all e f = ascend_get n.0 ns k a b all.1 e f
+append_one : (ms ns : List ObjNo) (o : ObjNo) → (ms ++ o ∷ []) ++ ns ≡ ms ++ o ∷ ns
+append_one [] ns o = refl
+append_one (m ∷ ms) ns o = ap (λ l. m ∷ l) (append_one ms ns o)
 
--- what a sort leaves ascends
-number_of : (ns : List ObjNo) (i : ℕ) (a d : ObjNo) → slice_get ns i ≡ Some a → slice_index_or ns i d ≡ a
-number_of [] i a d e = let no : None ≡ Some a = e in cc
-number_of (n ∷ ns) zero a d e = let first : n ≡ a = cc in first
-number_of (n ∷ ns) (suc i) a d e = number_of ns i a d e
+pub one_more_listed : (xs : List Object) (ds : List ObjNo) (i : ℕ) (x : Object) → slice_get xs i ≡ Some x → x.condemned ≡ true → ds ++ doomed_of (drop i xs) ≡ doomed_of xs → (ds ++ x.number ∷ []) ++ doomed_of (drop (i + 1) xs) ≡ doomed_of xs
+one_more_listed xs ds i x at is e =
+    let first : doomed_of (drop i xs) ≡ x.number ∷ doomed_of (drop (suc i) xs) = doomed_first xs i x at ∙ ap (λ (b : Bool). if b then x.number ∷ doomed_of (drop (suc i) xs) else doomed_of (drop (suc i) xs)) is in
+    rw (add-one, append_one) (ap (λ l. ds ++ l) (sym first) ∙ e)
 
-not_less : (a b : ℕ) → is_lt (nat_cmp b a) ≡ false → a ≤ b
-not_less a b h = search rules
-
-pub sorted_ascends : (ns : List ObjNo) → IsSorted (λ (x y : ObjNo). nat_cmp x.0 y.0) ns → Ascends ns
-sorted_ascends ns sorted k a b e f =
-    let inside = slice_get_within ns (suc k) b f in
-    let next : slice_index_or ns (k + 1) a ≡ b = ap (λ (i : ℕ). slice_index_or ns i a) (add-one k) ∙ number_of ns (suc k) b a f in
-    let first : slice_index_or ns k a ≡ a = number_of ns k a a e in
-    not_less a.0 b.0 (ap (λ (o : ObjNo). is_lt (nat_cmp o.0 a.0)) (sym next) ∙ ap (λ (o : ObjNo). is_lt (nat_cmp (slice_index_or ns (k + 1) a).0 o.0)) (sym first) ∙ sorted k a (omega arith) (omega arith))
+pub none_more_listed : (xs : List Object) (ds : List ObjNo) (i : ℕ) (x : Object) → slice_get xs i ≡ Some x → x.condemned ≡ false → ds ++ doomed_of (drop i xs) ≡ doomed_of xs → ds ++ doomed_of (drop (i + 1) xs) ≡ doomed_of xs
+none_more_listed xs ds i x at is e =
+    let first : doomed_of (drop i xs) ≡ doomed_of (drop (suc i) xs) = doomed_first xs i x at ∙ ap (λ (b : Bool). if b then x.number ∷ doomed_of (drop (suc i) xs) else doomed_of (drop (suc i) xs)) is in
+    rw add-one (ap (λ l. ds ++ l) (sym first) ∙ e)

@@ -6,10 +6,11 @@ use Rattle.tree_model.specs.Doomed.{is_marked}
 use Rattle.object_tree.specs.declared.tree.AddFault.{AddFault}
 use Rattle.object_tree.specs.declared.tree.AddFault.TheVariants as fault
 
--- the live objects in the order of their numbers, and how many numbers were given
+-- the live objects in the order of their numbers, how many numbers were given, and the condemned as they are listed
 pub record Objects : Type 0 where
   pub objects : List Object
   pub given : ℕ
+  pub listed : List ObjNo
 
 -- the live object of a number
 abbrev pub found : List Object → ObjNo → Option Object
@@ -24,29 +25,25 @@ abbrev pub is_there : Option Object → Bool
 is_there None = false
 is_there (Some x) = true
 
--- the objects but that of a number, and the numbers but one
+-- the objects but that of a number
 abbrev pub objects_but : ObjNo → List Object → List Object
 objects_but o [] = []
 objects_but o (x ∷ xs) = if nat_eq x.number.0 o.0 then objects_but o xs else x ∷ objects_but o xs
-
-abbrev pub numbers_but : ObjNo → List ObjNo → List ObjNo
-numbers_but o [] = []
-numbers_but o (n ∷ ns) = if nat_eq n.0 o.0 then numbers_but o ns else n ∷ numbers_but o ns
 
 -- an owner or an origin is a live object that isn't condemned
 abbrev pub MayOwn : List Object → Option ObjNo → Type 0
 MayOwn objects None = Unit {0}
 MayOwn objects (Some p) = (is_there (found objects p) ≡ true) × (is_marked objects p ≡ false)
 
-abbrev pub IsFull : Objects → Type 0
-IsFull t = (100000 ≤ length t.objects) ⊎ (2 ^ 32 ≤ 1 + t.given)
+abbrev pub IsFull : List Object → ℕ → Type 0
+IsFull objects given = (100000 ≤ length objects) ⊎ (2 ^ 32 ≤ 1 + given)
 
 -- what an addition answers, and what the tree is then
 abbrev pub Adds : Option ObjNo → Option ObjNo → Objects → Result ObjNo AddFault → Objects → Type 0
 Adds owner origin old (Ok o) new =
     (o.0 ≡ old.given + 1) × (new.given ≡ old.given + 1) × (length old.objects < 100000) × (1 + old.given < 2 ^ 32)
     × (new.objects ≡ old.objects ++ record { number = o; owner = owner; origin = origin; condemned = false } ∷ [])
-Adds owner origin old (Err (fault.Full live)) new = (new ≡ old) × (live ≡ length old.objects) × IsFull old
+Adds owner origin old (Err (fault.Full live)) new = (new ≡ old) × (live ≡ length old.objects) × IsFull old.objects old.given
 Adds owner origin old (Err fault.NoMemory) new = (new ≡ old) × (length old.objects < 100000) × (1 + old.given < 2 ^ 32)
 
 -- ---- how they lie

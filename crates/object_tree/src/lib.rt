@@ -4,7 +4,7 @@
 #![tactic(auto)]
 
 mod links;
-mod ordering;
+mod listing;
 mod places;
 mod removing;
 mod spreading;

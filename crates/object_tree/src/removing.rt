@@ -1,8 +1,8 @@
 //! Taking condemned objects away.
-ghost use Rattle.std.specs.Prelude.{◌≡◌, ◌-◌, ◌<◌, ◌≤◌, Some, length, slice_get, take, vec_len, vec_capacity};
+ghost use Rattle.std.specs.Prelude.{◌≡◌, ◌-◌, ◌<◌, ◌≤◌, Some, length, slice_get, take, vec_len};
 ghost use Rattle.tree_model.specs.declared.cells.Object.{Object};
 ghost use Rattle.tree_model.specs.Doomed.{IsOrdered};
-ghost use Rattle.object_tree.specs.Trees.{IsAt, AllUpTo, objects_but, numbers_but};
+ghost use Rattle.object_tree.specs.Trees.{IsAt, AllUpTo, objects_but};
 ghost use Rattle.tree_model.specs.Removing.{kept_of};
 
 use qml_base::ObjNo;
@@ -14,14 +14,6 @@ pub fn drop_object(objects: &mut Vec<Object>, o: ObjNo)
     ensures few { vec_len objects.new ≤ vec_len objects.old }
 {
     objects.retain(|object| object.number != o);
-}
-
-/// Takes the number out.
-pub fn drop_number(numbers: &mut Vec<ObjNo>, o: ObjNo)
-    ensures items { numbers.new.items ≡ numbers_but o numbers.old.items }
-    ensures room { vec_capacity numbers.new ≡ vec_capacity numbers.old }
-{
-    numbers.retain(|number| *number != o);
 }
 
 /// Moves the objects that aren't condemned to the front, in their order, and says how many they are.

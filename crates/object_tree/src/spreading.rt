@@ -2,6 +2,7 @@
 //! on each is marked and put behind the others, so each marked object is looked at once.
 
 ghost use Rattle.std.specs.Prelude.{◌≡◌, ◌≢◌, ◌↔◌, ◌+◌, ◌<◌, ◌≤◌, ◌++◌, ◌∷◌, ◌⊎◌, [], List, ℕ, true, false, length, slice_get, slice_set, slice_index, Some, vec_len, vec_capacity};
+ghost use Rattle.std.specs.List.Sorted.{IsPermutation};
 ghost use Rattle.qml_base.specs.declared.numbers.ObjNo.{ObjNo};
 ghost use Rattle.tree_model.specs.declared.cells.Object.{Object};
 ghost use Rattle.tree_model.specs.Doomed.{Doomed, Stands, Begins, IsOrdered, is_marked, marked_from};
@@ -12,7 +13,6 @@ ghost use Rattle.object_tree.specs.Spreading.{Spreads, Covers, IsWhole, AllMarke
 ghost use Rattle.object_tree.specs.declared.links.Tie.TheVariants as by_tie;
 
 use crate::links::{Links, Tie, parent, told};
-use crate::ordering::put_in_order;
 use crate::places::{place, stands_in};
 use qml_base::ObjNo;
 use tree_model::Object;
@@ -162,7 +162,7 @@ fn spread(
     }
 }
 
-/// Marks the object of the number, if it is live, and all that is doomed with it, and lists them in the order of numbers.
+/// Marks the object of the number, if it is live, and all that is doomed with it, and puts them behind the others that are listed.
 pub fn condemn(
     places: &[u32],
     owned: &Links,
@@ -176,12 +176,12 @@ pub fn condemn(
     requires owned { IsLinked by_tie.Owned (length objects.old) objects.old owned.now.last.items owned.now.before.items }
     requires made { IsLinked by_tie.Made (length objects.old) objects.old made.now.last.items made.now.before.items }
     requires room { length objects.old ≤ vec_capacity doomed.old }
-    requires listed { doomed.old.items ≡ doomed_of objects.old }
+    requires listed { IsPermutation doomed.old.items (doomed_of objects.old) }
     requires whole { IsWhole objects.old }
     ensures marks { objects.new ≡ marked_from o [] objects.old }
     ensures least { (x : Object) → Stands x objects.old → ((is_marked objects.new x.number ≡ true) ↔ Doomed objects.old (Begins o) x) }
     ensures spread { (es : List ObjNo) × Spreads o objects.old doomed.old.items objects.new es }
-    ensures listed { doomed.new.items ≡ doomed_of objects.new }
+    ensures listed { IsPermutation doomed.new.items (doomed_of objects.new) }
     ensures capacity { vec_capacity doomed.old ≤ vec_capacity doomed.new }
     ensures whole { IsWhole objects.new }
 {
@@ -191,5 +191,4 @@ pub fn condemn(
     }
     mark_at(objects, doomed, place(places, o));
     spread(places, owned, made, objects, doomed, from);
-    put_in_order(doomed.as_mut_slice(), from);
 }

@@ -1,5 +1,6 @@
 //! The tree.
 ghost use Rattle.std.specs.Prelude.{◌≡◌, ◌↔◌, ◌≢◌, ◌≤◌, ◌+◌, length, true, false, [], slice_index};
+ghost use Rattle.std.specs.List.Sorted.{IsPermutation};
 ghost use Rattle.tree_model.specs.declared.cells.Object.{Object};
 ghost use Rattle.tree_model.specs.Doomed.{Doomed, Stands, Begins, is_marked, marked_from};
 ghost use Rattle.tree_model.specs.Settling.{stands};
@@ -7,8 +8,9 @@ ghost use Rattle.object_tree.specs.Trees.{found, owner_of, is_there, objects_but
 ghost use Rattle.tree_model.specs.Removing.{doomed_of, kept_of, AscendsFrom};
 
 use crate::links::{Links, Tie};
+use crate::listing::list_condemned;
 use crate::places::{condemned_in, find, stands_in};
-use crate::removing::{drop_number, drop_object, keep, place_all};
+use crate::removing::{drop_object, keep, place_all};
 use crate::spreading::condemn;
 use qml_base::{OBJECT_LIMIT, ObjNo};
 use std::alloc::{AllocError, AllocFailed, Global};
@@ -52,7 +54,7 @@ pub struct Tree {
     objects: Vec<Object>,
     /// Where the object of each given number stands, or stood.
     places: Vec<u32>,
-    /// The condemned objects, with room for all live ones.
+    /// The condemned objects in any order, with room for all live ones.
     doomed: Vec<ObjNo>,
     /// Which objects each owns.
     owned: Links,
@@ -62,6 +64,7 @@ pub struct Tree {
 
 impl Model for Tree {
     ghost use Rattle.std.specs.Prelude.{◌≡◌, ◌≤◌, ◌<◌, ◌+◌, ◌^◌, length, vec_len, vec_capacity};
+    ghost use Rattle.std.specs.List.Sorted.{IsPermutation};
     ghost use Rattle.object_tree.specs.Trees.{Objects, IsAt, AllUpTo};
     ghost use Rattle.object_tree.specs.Links.{IsTied};
     ghost use Rattle.object_tree.specs.Spreading.{IsWhole};
@@ -71,15 +74,16 @@ impl Model for Tree {
 
     ghost Value = { Objects };
 
-    ghost view = { λ t. record { objects = t.objects.items; given = vec_len t.places } };
+    ghost view = { λ t. record { objects = t.objects.items; given = vec_len t.places; listed = t.doomed.items } };
 
-    ghost invariant = { λ t. (t.doomed.items ≡ doomed_of t.objects.items) × (vec_len t.objects ≤ vec_capacity t.doomed) × IsAt t.places.items t.objects.items × IsOrdered 0 t.objects.items × AllUpTo (vec_len t.places) t.objects.items × (vec_len t.objects ≤ 100000) × (vec_len t.places < 2 ^ 32) × IsTied by_tie.Owned t.objects.items t.owned.last.items t.owned.before.items × IsTied by_tie.Made t.objects.items t.made.last.items t.made.before.items × IsWhole t.objects.items };
+    ghost invariant = { λ t. IsPermutation t.doomed.items (doomed_of t.objects.items) × (vec_len t.objects ≤ vec_capacity t.doomed) × IsAt t.places.items t.objects.items × IsOrdered 0 t.objects.items × AllUpTo (vec_len t.places) t.objects.items × (vec_len t.objects ≤ 100000) × (vec_len t.places < 2 ^ 32) × IsTied by_tie.Owned t.objects.items t.owned.last.items t.owned.before.items × IsTied by_tie.Made t.objects.items t.made.last.items t.made.before.items × IsWhole t.objects.items };
 }
 
 impl Tree {
     /// No objects. It takes no memory.
     pub fn new(alloc: Global) -> Tree
         ensures objects { result.objects ≡ [] }
+        ensures listed { result.listed ≡ [] }
         ensures given { result.given ≡ 0 }
     {
         Tree {
@@ -113,12 +117,22 @@ impl Tree {
         self.objects.as_slice()
     }
 
-    /// The condemned objects, in the order of their numbers.
+    /// The condemned objects, each once, as they are listed: those that were condemned since `list_doomed` in any order.
     pub fn doomed(&self) -> &[ObjNo]
-        ensures numbers { result.now ≡ doomed_of self.now.objects }
-        ensures ascends { AscendsFrom 0 result.now }
+        ensures listed { result.now ≡ self.now.listed }
+        ensures numbers { IsPermutation result.now (doomed_of self.now.objects) }
     {
         self.doomed.as_slice()
+    }
+
+    /// Lists the condemned objects in the order of their numbers. It goes over all live objects, and takes no memory.
+    pub fn list_doomed(&mut self)
+        ensures objects { self.new.objects ≡ self.old.objects }
+        ensures given { self.new.given ≡ self.old.given }
+        ensures numbers { self.new.listed ≡ doomed_of self.old.objects }
+        ensures ascends { AscendsFrom 0 self.new.listed }
+    {
+        list_condemned(self.objects.as_slice(), &mut self.doomed);
     }
 
     /// Whether the number is that of a live object.
@@ -154,8 +168,8 @@ impl Tree {
 
     /// Whether 100,000 objects are live or the last number was given.
     pub fn is_full(&self) -> bool
-        ensures yes { result ≡ true → IsFull self.now }
-        ensures no { result ≡ false → ¬ (IsFull self.now) }
+        ensures yes { result ≡ true → IsFull self.now.objects self.now.given }
+        ensures no { result ≡ false → ¬ (IsFull self.now.objects self.now.given) }
     {
         self.objects.len() as u32 >= OBJECT_LIMIT || self.places.len() as u32 == u32::MAX
     }
@@ -192,7 +206,8 @@ impl Tree {
         Ok(number)
     }
 
-    /// Marks the object and all that is doomed with it: what a marked object owns, and what was made from one.
+    /// Marks the object and all that is doomed with it: what a marked object owns, and what was made from one. It goes to the
+    /// objects that it marks and to what hangs on them, and takes time for these alone.
     pub fn condemn(&mut self, o: ObjNo)
         ensures marks { self.new.objects ≡ marked_from o [] self.old.objects }
         ensures least { (x : Object) → Stands x self.old.objects → ((is_marked self.new.objects x.number ≡ true) ↔ Doomed self.old.objects (Begins o) x) }
@@ -215,11 +230,11 @@ impl Tree {
         ensures given { self.new.given ≡ self.old.given }
     {
         drop_object(&mut self.objects, o);
-        drop_number(&mut self.doomed, o);
         place_all(self.places.as_mut_slice(), self.objects.as_slice());
         let (places, objects) = (self.places.as_slice(), self.objects.as_slice());
         self.owned.relink(places, objects, Tie::Owned);
         self.made.relink(places, objects, Tie::Made);
+        list_condemned(objects, &mut self.doomed);
     }
 
     /// Takes all condemned objects away. Their numbers aren't given again.

@@ -1,9 +1,11 @@
-//! That the first name that is used twice is told.
+//! That the first name that is used twice is told, and the first fault of ids, names and aliases.
 
+use document_faults::first_of_program;
 use document_tables::{ProgramTables, tables_of_program};
 use name_faults::first_of_names;
 use program_names::Fault;
 use program_passes::{Passed, two_passes};
+use program_paths::program_paths;
 use program_reading::KnownFiles;
 use qml_base::{LoadCause, Place};
 use qml_outside::SureFiles;
@@ -49,6 +51,20 @@ fn first(alloc: Global, main: &[u8], beside: &[u8]) -> Result<Option<(usize, Fau
     Ok(first_of_names(alloc, &tables)?)
 }
 
+/// The first fault of ids, names and aliases of a program of two files.
+fn first_told(alloc: Global, main: &[u8], beside: &[u8]) -> Result<Option<(usize, Fault)>, Fail> {
+    let mut held = Vec::new(alloc);
+    add(alloc, &mut held, "main.qml", main)?;
+    add(alloc, &mut held, "A.qml", beside)?;
+    let mut files = SureFiles::new(held);
+    let mut known = KnownFiles::new(alloc);
+    let tables = tables(alloc, &mut known, &mut files)?;
+    match program_paths(alloc, &tables.names, &tables.documents)? {
+        Some(paths) => Ok(first_of_program(alloc, &tables, &paths)?),
+        None => Err(Fail::from("undecided")),
+    }
+}
+
 fn twice(line: u32, column: u32) -> Fault {
     Fault {
         at: Place { line, column },
@@ -83,5 +99,40 @@ fn nothing_is_told_where_names_differ(rt: HostRuntime) -> Result<(), Fail> {
     let beside = b"import QtQuick\nItem { id: a; property int size }";
     let found = first(alloc, main, beside)?;
     assert!(rt; found == None);
+    Ok(())
+}
+
+#[test]
+fn an_id_of_the_same_component_is_told(rt: HostRuntime) -> Result<(), Fail> {
+    let alloc = rt.alloc();
+    let main = b"import QtQuick\nItem { id: a; Component { Item { id: a } } A { } }";
+    let beside = b"import QtQuick\nItem { id: a; Item { id: a } }";
+    let found = first_told(alloc, main, beside)?;
+    let told = Fault {
+        at: Place {
+            line: 2,
+            column: 26,
+        },
+        cause: LoadCause::DuplicateId,
+    };
+    assert!(rt; found == Some((1, told)));
+    Ok(())
+}
+
+#[test]
+fn an_alias_of_nothing_is_told(rt: HostRuntime) -> Result<(), Fail> {
+    let alloc = rt.alloc();
+    let main =
+        b"import QtQuick\nItem { id: a; property alias b: a.width; property alias c: a.none }";
+    let beside = b"import QtQuick\nItem { }";
+    let found = first_told(alloc, main, beside)?;
+    let told = Fault {
+        at: Place {
+            line: 2,
+            column: 60,
+        },
+        cause: LoadCause::BadAlias,
+    };
+    assert!(rt; found == Some((0, told)));
     Ok(())
 }

@@ -1,15 +1,12 @@
-use Rattle.std.proofs.Common.{◌∙◌, ap, sym, subst, refl, ◌+◌, List, [], ◌∷◌, length, slice_get, arith}
-use Rattle.std.proofs.lemmas.List.{length-append}
+use Rattle.std.proofs.Common.{◌∙◌, ap, sym, refl, slice_get, arith}
 use Rattle.std.proofs.lemmas.Option.{slice_get_within}
 use Rattle.object_tree.specs.declared.links.Tie.TheVariants as by_tie
-use Rattle.object_tree.specs.Spreading.{no_more, AllMarked, AllListed}
-use Rattle.object_tree.proofs.CondemnLemmas.{none_standing, standing, begins, begun_mark, begun_covered, condemn_marks, condemn_front, condemn_longer, condemn_sorted, condemn_least, none_least, all_spreads}
-use Rattle.object_tree.proofs.ListedLemmas.{all_marked, all_listed}
+use Rattle.tree_model.specs.Removing.{doomed_of}
+use Rattle.object_tree.specs.Spreading.{no_more}
+use Rattle.object_tree.proofs.CondemnLemmas.{none_standing, standing, begins, begun_mark, begun_covered, condemn_marks, condemn_listed, condemn_least, none_least, all_spreads}
+use Rattle.object_tree.proofs.ListedLemmas.{permuted_marked, permuted_listed}
 use Rattle.object_tree.proofs.SpreadLemmas.{spread_placed, spread_ordered, spread_linked, spread_room, spread_marked, spread_listed, all_counted, some_unmarked}
-use Rattle.object_tree.proofs.MarkLemmas.{seam}
-use Rattle.std.specs.List.Sorted.{IsPermutation}
 use Rattle.std.proofs.lemmas.List.Sorted.{length_permutation}
-use Rattle.qml_base.specs.declared.numbers.ObjNo.{ObjNo}
 use Rattle.object_tree.proofs.spreading.condemn.Goals as goal
 
 pub returns-then-not-stands_in-clause-marks : goal.returns-then-not-stands_in-clause-marks
@@ -28,7 +25,7 @@ mark_at-requires-clause-room c =
     let there = ap (slice_get c.args.objects.now) c.place.ensures ∙ s.there in
     let counted = all_counted c.args.objects.now in
     let was = c.args.doomed.now.ok.0 in
-    let names = ap length c.requires.listed in
+    let names = length_permutation c.args.doomed.now.items (doomed_of c.args.objects.now) c.requires.listed in
     let room = c.requires.room in
     let some = some_unmarked c.args.objects.now c.place.result s.x there s.free in
     omega arith
@@ -68,7 +65,7 @@ spread-requires-clause-room c =
     let first = begins c.args.o c.args.objects.now c.mark_at.new.objects c.args.doomed.now.items c.mark_at.new.doomed.items c.place.result s.x there s.number s.free (c.mark_at.ensures.objects s.x there) (c.mark_at.ensures.doomed s.x there) in
     let counted = all_counted c.args.objects.now in
     let was = c.args.doomed.now.ok.0 in
-    let names = ap length c.requires.listed in
+    let names = length_permutation c.args.doomed.now.items (doomed_of c.args.objects.now) c.requires.listed in
     let room = c.requires.room in
     let same = spread_room c.args.o c.args.objects.now c.args.doomed.now.items c.mark_at.new.objects c.mark_at.new.doomed.items first in
     let is = c.mark_at.new.doomed.ok.0 in
@@ -80,14 +77,14 @@ spread-requires-clause-marked c =
     let s = standing c.args.places.now c.args.objects.now c.args.o c.requires.placed c.requires.ordered (sym c.if-not-stands_in.ensures) in
     let there = ap (slice_get c.args.objects.now) c.place.ensures ∙ s.there in
     let first = begins c.args.o c.args.objects.now c.mark_at.new.objects c.args.doomed.now.items c.mark_at.new.doomed.items c.place.result s.x there s.number s.free (c.mark_at.ensures.objects s.x there) (c.mark_at.ensures.doomed s.x there) in
-    spread_marked c.args.o c.args.objects.now c.args.doomed.now.items c.mark_at.new.objects c.mark_at.new.doomed.items first c.requires.ordered (subst (λ ns. AllMarked ns c.args.objects.now) (sym c.requires.listed) (all_marked 0 c.args.objects.now c.requires.ordered))
+    spread_marked c.args.o c.args.objects.now c.args.doomed.now.items c.mark_at.new.objects c.mark_at.new.doomed.items first c.requires.ordered (permuted_marked c.args.objects.now c.args.doomed.now.items c.requires.ordered c.requires.listed)
 
 pub spread-requires-clause-listed : goal.spread-requires-clause-listed
 spread-requires-clause-listed c =
     let s = standing c.args.places.now c.args.objects.now c.args.o c.requires.placed c.requires.ordered (sym c.if-not-stands_in.ensures) in
     let there = ap (slice_get c.args.objects.now) c.place.ensures ∙ s.there in
     let first = begins c.args.o c.args.objects.now c.mark_at.new.objects c.args.doomed.now.items c.mark_at.new.doomed.items c.place.result s.x there s.number s.free (c.mark_at.ensures.objects s.x there) (c.mark_at.ensures.doomed s.x there) in
-    spread_listed c.args.o c.args.objects.now c.args.doomed.now.items c.mark_at.new.objects c.mark_at.new.doomed.items first (subst (AllListed c.args.objects.now) (sym c.requires.listed) (all_listed c.args.objects.now))
+    spread_listed c.args.o c.args.objects.now c.args.doomed.now.items c.mark_at.new.objects c.mark_at.new.doomed.items first (permuted_listed c.args.objects.now c.args.doomed.now.items c.requires.listed)
 
 pub spread-requires-clause-covered : goal.spread-requires-clause-covered
 spread-requires-clause-covered c =
@@ -112,11 +109,7 @@ returns-clause-listed c =
     let there = ap (slice_get c.args.objects.now) c.place.ensures ∙ s.there in
     let first = begins c.args.o c.args.objects.now c.mark_at.new.objects c.args.doomed.now.items c.mark_at.new.doomed.items c.place.result s.x there s.number s.free (c.mark_at.ensures.objects s.x there) (c.mark_at.ensures.doomed s.x there) in
     let marked = begun_mark c.args.o c.args.objects.now c.mark_at.new.objects c.args.doomed.now.items c.mark_at.new.doomed.items c.place.result s.x there s.number s.free (c.mark_at.ensures.objects s.x there) (c.mark_at.ensures.doomed s.x there) c.requires.ordered in
-    let moved = subst (λ (ns : List ObjNo). IsPermutation ns c.put_in_order.new.numbers) c.as_mut_slice.ensures.value c.put_in_order.ensures.permutation in
-    let same = length_permutation c.spread.new.doomed.items c.put_in_order.new.numbers moved in
-    let long = c.spread.new.doomed.ok.0 in
-    let whole = seam c.put_in_order.new.numbers c.spread.new.doomed.items c.spread.new.doomed.len (omega arith) in
-    whole ∙ condemn_sorted c.args.o c.args.objects.now c.mark_at.new.objects c.spread.new.objects c.args.doomed.now.items c.mark_at.new.doomed.items c.spread.new.doomed.items c.requires.ordered c.requires.listed first marked (c.spread.ensures.spreads c.args.o) c.spread.ensures.whole c.put_in_order.new.numbers moved c.put_in_order.ensures.ascends
+    condemn_listed c.args.o c.args.objects.now c.mark_at.new.objects c.spread.new.objects c.args.doomed.now.items c.mark_at.new.doomed.items c.spread.new.doomed.items c.requires.ordered c.requires.listed first marked (c.spread.ensures.spreads c.args.o) c.spread.ensures.whole
 
 pub returns-then-not-stands_in-clause-least : goal.returns-then-not-stands_in-clause-least
 returns-then-not-stands_in-clause-least c =
@@ -141,26 +134,3 @@ returns-clause-spread c =
     let first = begins c.args.o c.args.objects.now c.mark_at.new.objects c.args.doomed.now.items c.mark_at.new.doomed.items c.place.result s.x there s.number s.free (c.mark_at.ensures.objects s.x there) (c.mark_at.ensures.doomed s.x there) in
     let marked = begun_mark c.args.o c.args.objects.now c.mark_at.new.objects c.args.doomed.now.items c.mark_at.new.doomed.items c.place.result s.x there s.number s.free (c.mark_at.ensures.objects s.x there) (c.mark_at.ensures.doomed s.x there) c.requires.ordered in
     (c.spread.new.doomed.items, all_spreads c.args.o c.args.objects.now c.mark_at.new.objects c.spread.new.objects c.args.doomed.now.items c.mark_at.new.doomed.items c.spread.new.doomed.items c.requires.ordered c.requires.listed first marked (c.spread.ensures.spreads c.args.o) c.spread.ensures.whole)
-
-pub put_in_order-requires-clause-within : goal.put_in_order-requires-clause-within
-put_in_order-requires-clause-within c =
-    let s = standing c.args.places.now c.args.objects.now c.args.o c.requires.placed c.requires.ordered (sym c.if-not-stands_in.ensures) in
-    let there = ap (slice_get c.args.objects.now) c.place.ensures ∙ s.there in
-    let first = begins c.args.o c.args.objects.now c.mark_at.new.objects c.args.doomed.now.items c.mark_at.new.doomed.items c.place.result s.x there s.number s.free (c.mark_at.ensures.objects s.x there) (c.mark_at.ensures.doomed s.x there) in
-    let marked = begun_mark c.args.o c.args.objects.now c.mark_at.new.objects c.args.doomed.now.items c.mark_at.new.doomed.items c.place.result s.x there s.number s.free (c.mark_at.ensures.objects s.x there) (c.mark_at.ensures.doomed s.x there) c.requires.ordered in
-    let was = c.args.doomed.now.ok.0 in
-    let from = c.len-from.ensures in
-    let one = ap length (c.mark_at.ensures.doomed s.x there) ∙ length-append c.args.doomed.now.items (s.x.number ∷ []) in
-    let longer = condemn_longer c.args.o c.args.objects.now c.mark_at.new.objects c.spread.new.objects c.args.doomed.now.items c.mark_at.new.doomed.items c.spread.new.doomed.items c.requires.ordered c.requires.listed first marked (c.spread.ensures.spreads c.args.o) c.spread.ensures.whole in
-    omega arith
-
-pub put_in_order-requires-clause-front : goal.put_in_order-requires-clause-front
-put_in_order-requires-clause-front c =
-    let s = standing c.args.places.now c.args.objects.now c.args.o c.requires.placed c.requires.ordered (sym c.if-not-stands_in.ensures) in
-    let there = ap (slice_get c.args.objects.now) c.place.ensures ∙ s.there in
-    let first = begins c.args.o c.args.objects.now c.mark_at.new.objects c.args.doomed.now.items c.mark_at.new.doomed.items c.place.result s.x there s.number s.free (c.mark_at.ensures.objects s.x there) (c.mark_at.ensures.doomed s.x there) in
-    let marked = begun_mark c.args.o c.args.objects.now c.mark_at.new.objects c.args.doomed.now.items c.mark_at.new.doomed.items c.place.result s.x there s.number s.free (c.mark_at.ensures.objects s.x there) (c.mark_at.ensures.doomed s.x there) c.requires.ordered in
-    λ k a b low e f.
-    let was = c.args.doomed.now.ok.0 in
-    let from = c.len-from.ensures in
-    condemn_front c.args.o c.args.objects.now c.mark_at.new.objects c.spread.new.objects c.args.doomed.now.items c.mark_at.new.doomed.items c.spread.new.doomed.items c.requires.ordered c.requires.listed first marked (c.spread.ensures.spreads c.args.o) c.spread.ensures.whole k a b (omega arith) (ap (λ (ns : List ObjNo). slice_get ns k) (sym c.as_mut_slice.ensures.value) ∙ e) (ap (λ (ns : List ObjNo). slice_get ns (k + 1)) (sym c.as_mut_slice.ensures.value) ∙ f)

@@ -3,8 +3,8 @@ use Rattle.live_tree.proofs.tree.LiveTree.remove_doomed.Goals as goal
 
 pub invariant_of-self : goal.invariant_of-self
 invariant_of-self c = (
-  rw (c.remove_doomed.ensures.given, c.scrub.ensures) (scrubbed_below c.doomed.result.now _ c.catch_up.new.store (caught_below c.self.inside.stale c.self.inside.objects.objects c.self.inside.store c.catch_up.new.store _ c.catch_up.ensures.cells c.self.invariant.0)),
-  rw c.remove_doomed.ensures.given (c.forget_all.ensures.kept _ c.self.invariant.1),
+  rw (c.remove_doomed.ensures.given, c.list_doomed.ensures.given, c.scrub.ensures) (scrubbed_below c.doomed.result.now _ c.catch_up.new.store (caught_below c.self.inside.stale c.self.inside.objects.objects c.self.inside.store c.catch_up.new.store _ c.catch_up.ensures.cells c.self.invariant.0)),
+  rw (c.remove_doomed.ensures.given, c.list_doomed.ensures.given) (c.forget_all.ensures.kept _ c.self.invariant.1),
 )
 
 pub returns-clause-spared : goal.returns-clause-spared

@@ -1,7 +1,6 @@
 use Rattle.std.proofs.Common.{◌≡◌, ◌∙◌, ◌++◌, ◌∷◌, [], ap, sym, subst, refl, ◌+◌, length, vec_len, false, arith}
 use Rattle.tree_model.specs.declared.cells.Object.{Object}
 use Rattle.object_tree.specs.Trees.{MayOwn}
-use Rattle.tree_model.specs.Removing.{doomed_of}
 use Rattle.object_tree.specs.declared.links.Tie.TheVariants as by_tie
 use Rattle.object_tree.specs.Links.{IsTied}
 use Rattle.object_tree.proofs.LinkLemmas.{linked_push}
@@ -32,7 +31,7 @@ invariant_of-self-2 c =
     let were = c.reserve.ensures.len in
     let long = c.len.ensures in
     let listed = c.len-2.ensures in (
-      doomed ∙ inv.0 ∙ sym (ap doomed_of objects ∙ doomed_push old.objects.items x refl),
+      rw (doomed, objects, doomed_push old.objects.items x refl) inv.0,
       omega arith,
       rw (objects, places) (at_push old.places.items old.objects.items x inv.2 (rw (← same_len) inv.4) inv.3 (omega arith)),
       rw objects (ordered_push 0 (vec_len old.places) old.objects.items x inv.3 inv.4 (omega arith) (omega arith) owner origin),

@@ -1,11 +1,12 @@
-use Rattle.std.proofs.Common.{◌≡◌, ◌∙◌, ap, sym, subst, length, arith}
+use Rattle.std.proofs.Common.{◌≡◌, subst, length, arith}
+use Rattle.std.proofs.lemmas.List.Sorted.{IsPermutation-refl}
 use Rattle.tree_model.specs.Removing.{doomed_of}
-use Rattle.object_tree.specs.Trees.{IsAt, numbers_but}
+use Rattle.object_tree.specs.Trees.{IsAt}
 use Rattle.object_tree.specs.declared.links.Tie.TheVariants as by_tie
 use Rattle.object_tree.specs.Links.{IsTied}
 use Rattle.object_tree.proofs.WholeLemmas.{whole_but}
 use Rattle.object_tree.proofs.MarkLemmas.{seam}
-use Rattle.object_tree.proofs.DropLemmas.{doomed_but, ordered_but, up_to_but}
+use Rattle.object_tree.proofs.DropLemmas.{ordered_but, up_to_but}
 use Rattle.object_tree.proofs.tree.Tree.remove.Goals as goal
 
 pub place_all-requires-clause-given : goal.place_all-requires-clause-given
@@ -24,8 +25,8 @@ invariant_of-self c =
     let every : length c.place_all.new.places ≡ old.places.len = omega arith in
     let placed = seam c.place_all.new.places old.places.items old.places.len every in
     let fewer = c.drop_object.ensures.few in
-    let room = c.drop_number.ensures.room in (
-      c.drop_number.ensures.items ∙ ap (numbers_but c.args.o) inv.0 ∙ doomed_but c.args.o old.objects.items ∙ sym (ap doomed_of kept),
+    let room = c.list_condemned.ensures.capacity in (
+      rw (c.list_condemned.ensures.numbers, c.as_slice-objects.ensures.value) (IsPermutation-refl (doomed_of c.drop_object.new.objects.items)),
       omega arith,
       rw placed (subst (IsAt c.place_all.new.places) c.as_slice.ensures.value c.place_all.ensures),
       rw kept (ordered_but c.args.o 0 old.objects.items inv.3),

@@ -1,6 +1,7 @@
-use Rattle.std.proofs.Common.{◌≡◌, ◌∙◌, ap, sym, subst, length, take, arith}
+use Rattle.std.proofs.Common.{◌≡◌, ◌∙◌, [], ap, subst, length, take, arith}
+use Rattle.std.proofs.lemmas.List.Sorted.{IsPermutation-refl}
 use Rattle.object_tree.specs.Trees.{IsAt}
-use Rattle.tree_model.specs.Removing.{doomed_of, kept_of}
+use Rattle.tree_model.specs.Removing.{kept_of}
 use Rattle.object_tree.specs.declared.links.Tie.TheVariants as by_tie
 use Rattle.object_tree.specs.Links.{IsTied}
 use Rattle.object_tree.proofs.WholeLemmas.{whole_kept}
@@ -35,7 +36,7 @@ invariant_of-self c =
     let placed = seam c.place_all.new.places old.places.items old.places.len every in
     let fewer = c.truncate.ensures.len in
     let room = c.clear.ensures.capacity in (
-      c.clear.ensures.items ∙ sym (ap doomed_of kept ∙ none_doomed old.objects.items),
+      rw (c.clear.ensures.items, kept, none_doomed old.objects.items) (IsPermutation-refl []),
       omega arith,
       rw placed (subst (IsAt c.place_all.new.places) c.as_slice.ensures.value c.place_all.ensures),
       rw kept (ordered_kept 0 old.objects.items inv.3),
