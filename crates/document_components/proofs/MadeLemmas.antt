@@ -50,7 +50,7 @@ owner_by as_root = None
 owner_by (as_child w) = Some w
 owner_by (as_value w path) = Some w
 
-none_some : {A : Type 0} {X : Type 0} (x : A) → Path (Option A) None (Some x) → X
+pub none_some : {A : Type 0} {X : Type 0} (x : A) → Path (Option A) None (Some x) → X
 none_some x e = absurd (false≢true (ap is_some e))
 
 member_owner : (us : List UnitNames) (d o w : ℕ) (g : Option ℕ) (x : Member) (c : Bool) (role : WrittenAs) → by_member us d o w g x ≡ Some c → SaysRole role w g x → owner_by role ≡ Some w
@@ -82,7 +82,7 @@ mapped_there f [] k y e = none_some y e
 mapped_there f (x ∷ xs) zero y e = (x, refl, sym (ap (λ v. unwrap_or v y) e))
 mapped_there f (x ∷ xs) (suc k) y e = mapped_there f xs k y e
 
-map_long : {A B : Type 0} (f : A → B) (xs : List A) → length (map f xs) ≡ length xs
+pub map_long : {A B : Type 0} (f : A → B) (xs : List A) → length (map f xs) ≡ length xs
 map_long f [] = refl
 map_long f (x ∷ xs) = ap suc (map_long f xs)
 
@@ -121,7 +121,7 @@ root_low p roots d lower (suc n) o = by_begin (is_true (is_root_at roots d o)) (
     by_begin true h = itself o
     by_begin false h = h
 
-roots_long : (known : List Bool) (done : List ℕ) (o : ℕ) (ws : List (Option ℕ)) → length (roots_after known done o ws) ≡ length done + length ws
+pub roots_long : (known : List Bool) (done : List ℕ) (o : ℕ) (ws : List (Option ℕ)) → length (roots_after known done o ws) ≡ length done + length ws
 roots_long known done o [] = no_more (length done)
   where
     no_more : (n : ℕ) → n ≡ n + 0
@@ -138,12 +138,12 @@ decisions_long : (us : List UnitNames) (d : ℕ) (rows : List UnitRow) (n : ℕ)
 decisions_long us d rows n [] = refl
 decisions_long us d rows n (x ∷ objects) = ap suc (decisions_long us d rows (suc n) objects)
 
-none_outside : {A : Type 0} (xs : List A) (k : ℕ) → length xs ≤ k → Path (Option A) (slice_get xs k) None
+pub none_outside : {A : Type 0} (xs : List A) (k : ℕ) → length xs ≤ k → Path (Option A) (slice_get xs k) None
 none_outside [] k h = refl
 none_outside (x ∷ xs) zero h = absurd (omega arith)
 none_outside (x ∷ xs) (suc k) h = let less : length xs ≤ k = omega arith in none_outside xs k less
 
-less_or_not : (a c : ℕ) → (a < c) ⊎ (c ≤ a)
+pub less_or_not : (a c : ℕ) → (a < c) ⊎ (c ≤ a)
 less_or_not a zero = inr (omega arith)
 less_or_not zero (suc c) = inl (omega arith)
 less_or_not (suc a) (suc c) = up (less_or_not a c)
@@ -156,12 +156,12 @@ abbrev is_known_root : IsRoot → Bool
 is_known_root (Some b) = b
 is_known_root None = false
 
-in_list : {A : Type 0} (xs : List A) (k : ℕ) → k < length xs → (x : A) × (slice_get xs k ≡ Some x)
+pub in_list : {A : Type 0} (xs : List A) (k : ℕ) → k < length xs → (x : A) × (slice_get xs k ≡ Some x)
 in_list [] k h = absurd (omega arith)
 in_list (x ∷ xs) zero h = (x, refl)
 in_list (x ∷ xs) (suc k) h = let less : k < length xs = omega arith in in_list xs k less
 
-there_less : {A : Type 0} (xs : List A) (k : ℕ) (x : A) → slice_get xs k ≡ Some x → k < length xs
+pub there_less : {A : Type 0} (xs : List A) (k : ℕ) (x : A) → slice_get xs k ≡ Some x → k < length xs
 there_less [] k x e = none_some x e
 there_less (y ∷ xs) zero x e = omega arith
 there_less (y ∷ xs) (suc k) x e = let less : k < length xs = there_less xs k x e in omega arith

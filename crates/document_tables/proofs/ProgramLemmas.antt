@@ -23,7 +23,7 @@ use Rattle.program_tables.specs.Walk.{object_in}
 use Rattle.program_types.specs.Numbers.{files_in}
 use Rattle.document_tables.specs.declared.program.DocumentTable.{DocumentTable}
 use Rattle.document_tables.specs.declared.program.ProgramTables.{ProgramTables}
-use Rattle.document_tables.specs.Tables.{Tells, tree_in, FileMade, AllMade, AreTables}
+use Rattle.document_tables.specs.Tables.{Tells, IsWritten, tree_in, FileMade, AllMade, AreTables}
 use Rattle.document_tables.proofs.BaseLemmas.{get_map, bases_in, bases_kept}
 
 -- ---- one file after another
@@ -261,6 +261,8 @@ tables_told files sources tables law h =
         stands = law (program_of sources files) ns (c.0 ∙ sym (count_of_program sources files)) (names_say files sources ns xs h) (rooted files sources ns xs h);
         long = c.1 ∙ sym (count_of_program sources files);
         tells = λ d x e. told_at d x e;
+        written = λ d x e. written_at d x e;
+        objects = λ d x names e g. objects_at d x names e g;
       };
       shown = λ d x file e g. shown_at d x file e g;
     }
@@ -275,6 +277,20 @@ tables_told files sources tables law h =
     told_at d x e =
         let a = place d x e in
         (a.1, a.4, subst (λ (v : DocumentTable). Tells (program_of sources files) d (tree_in v.content.value) a.1 v.rows.items v.inside.items) (same_some a.2 x (sym a.5 ∙ e)) (tells_at files sources tables.names.units.items tables.documents.items d a))
+
+    written_at : (d : ℕ) (x : DocumentTable) → slice_get tables.documents.items d ≡ Some x
+        → IsWritten (unit_at (program_of sources files) d) (tree_in x.content.value) x.objects.items x.rows.items
+    written_at d x e =
+        let a = place d x e in
+        subst (λ (v : DocumentTable). IsWritten (unit_at (program_of sources files) d) (tree_in v.content.value) v.objects.items v.rows.items) (same_some a.2 x (sym a.5 ∙ e))
+        (subst (λ (u : AUnit). IsWritten u (tree_in a.2.content.value) a.2.objects.items a.2.rows.items) (sym (unit_of_program sources files d a.0 a.3)) a.6.0.written)
+
+    objects_at : (d : ℕ) (x : DocumentTable) (names : UnitNames) → slice_get tables.documents.items d ≡ Some x → slice_get tables.names.units.items d ≡ Some names
+        → length x.objects.items ≡ length names.objects.items
+    objects_at d x names e g =
+        let a = place d x e in
+        ap (λ (v : DocumentTable). length v.objects.items) (sym (same_some a.2 x (sym a.5 ∙ e))) ∙ a.6.0.long ∙
+        ap (λ (v : UnitNames). length v.objects.items) (same_some a.1 names (sym a.4 ∙ g))
 
     shown_at : (d : ℕ) (x : DocumentTable) (file : File) → slice_get tables.documents.items d ≡ Some x → slice_get files d ≡ Some file
         → Shows x.content.value (sources file)

@@ -1,5 +1,5 @@
 -- The table of a file tells it, wherever it stands in a program.
-use Rattle.std.proofs.Common.{◌≡◌, ◌∙◌, ap, sym, refl, subst, arith, ℕ, zero, suc, ◌<◌, Bool, true, List, [], ◌∷◌, length, map, Option, Some, None, is_some, Result, IfOk}
+use Rattle.std.proofs.Common.{◌≡◌, ◌∙◌, ap, sym, refl, subst, inl, inr, arith, ℕ, zero, suc, ◌<◌, Bool, true, List, [], ◌∷◌, length, map, Option, Some, None, is_some, Result, IfOk}
 use Rattle.std.specs.Prelude.{slice_get}
 use Rattle.std.specs.Option.{unwrap_or}
 use Rattle.std.proofs.lemmas.Bool.{false≢true}
@@ -101,9 +101,22 @@ pub document_made : (files : List File) (here : FilePath) (file : File) (t : Tab
     (bases : List TypeRef) (names : UnitNames) → here ≡ directory_of file.path → AreRows t objects members
     → ((is : List Import) (root : Object) → listed_document (document is root) ≡ t → imports ≡ map (row_of here) is)
     → bases ≡ types_found files here imports t objects → MakesRows files here imports t members rows → inside ≡ insides [] rows
-    → names.objects.items ≡ rows_added 0 [] rows (map nothing_declared bases) → (d : Document) → listed_document d ≡ t → TableOf files (unit_of file (is_document d)) t names rows inside
+    → names.objects.items ≡ rows_added 0 [] rows (map nothing_declared bases) → (d : Document) → listed_document d ≡ t → TableOf files (unit_of file (is_document d)) t names objects rows inside
 document_made files here file t objects members imports rows inside bases names h a told b makes i built (document is root) g =
-    record { tells = λ p k fs us. tell p k fs us }
+    let made : map own_row rows ≡ members = rows_made files here imports t members rows makes in
+    let count : length names.objects.items ≡ length objects =
+    sym (length_map (λ (x : ObjectNames). x.base) names.objects.items) ∙ ap length (ap bases_in built ∙ bases_kept rows bases ∙ b) ∙
+    length_map (λ (r : ObjectRow). object_type files here imports t r.node) objects in
+    record {
+      tells = λ p k fs us. tell p k fs us;
+      written = inl (record {
+        file = file;
+        are = record { imports = a.imports; root = a.root; tree = a.tree; all_objects = a.all_objects; all_members = ap (map (member_entry t)) made ∙ a.all_members };
+        same = ap (λ d. unit_of file (is_document d)) (one_document t (document is root) (document a.imports a.root) g a.tree);
+        read = subst (λ ms. ReadsMembers t ms (map member_of_row rows)) (sym made) (rows_read files here imports t members rows makes);
+      });
+      long = sym count;
+    }
   where
     tell : (p : Program) (k : ℕ) → files_in p ≡ files → unit_at p k ≡ unit_of file (is_document (document is root)) → Tells p k t names rows inside
     tell p k fs us =
@@ -163,9 +176,12 @@ nothing_tells p k file base names e b built =
     none_below : (o : ℕ) → o < 0 → ⊥
     none_below o h = omega arith
 
-pub nothing_made : (files : List File) (here : FilePath) (file : File) (base : TypeRef) (names : UnitNames) → here ≡ directory_of file.path → base ≡ nameless_type files here
-    → names.objects.items ≡ rows_added 0 [] [] (map nothing_declared (base ∷ [])) → (s : Source) → is_nothing s ≡ true → TableOf files (unit_of file s) [] names [] []
-nothing_made files here file base names h b built s e = record {
+pub nothing_made : (files : List File) (here : FilePath) (file : File) (base : TypeRef) (names : UnitNames) (objects : List ObjectRow) → here ≡ directory_of file.path → base ≡ nameless_type files here
+    → names.objects.items ≡ rows_added 0 [] [] (map nothing_declared (base ∷ [])) → objects ≡ record { node = 0; row = None } ∷ [] → (s : Source) → is_nothing s ≡ true
+    → TableOf files (unit_of file s) [] names objects [] []
+nothing_made files here file base names objects h b built one s e = record {
+  written = inr (record { none = (nothing_there file s e).2; no_members = (nothing_there file s e).3; alone = one; no_rows = refl });
+  long = ap length one ∙ sym (ap length built);
   tells = λ p k fs us.
       nothing_tells p k file base names (subst (λ (u : AUnit). IsEmpty u file) (sym us) (nothing_there file s e))
       (b ∙ ap (λ f. nameless_type f here) (sym fs) ∙ ap (nameless_type (files_in p)) h) built;
@@ -174,7 +190,7 @@ nothing_made files here file base names h b built s e = record {
 -- ---- by what a file is
 
 abbrev TableMade : List File → AUnit → Table → UnitTable → Type 0
-TableMade files unit t made = TableOf files unit t made.names made.rows.items made.inside.items
+TableMade files unit t made = TableOf files unit t made.names made.objects.items made.rows.items made.inside.items
 
 pub document_shown : (r : Result UnitTable NoMemory) (files : List File) (file : File) (t : Table) (c : Content) → c ≡ content.Document t
     → ((d : Document) → listed_document d ≡ t → IfOk r (λ made. TableMade files (unit_of file (is_document d)) t made))

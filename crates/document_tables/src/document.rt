@@ -14,7 +14,7 @@ use crate::groups::insides;
 use crate::rows::{object_types, unit_rows};
 use crate::types::nameless_type;
 use document_imports::imports_of;
-use document_rows::document_rows;
+use document_rows::{ObjectRow, document_rows};
 use file_paths::directory_of;
 use file_sources::Content;
 use program_tables::{UnitNames, UnitRow, unit_names};
@@ -24,10 +24,12 @@ use qml_syntax::Tree;
 use read_order::File;
 use std::alloc::Global;
 
-/// What is made of a file: what its objects declare, its rows, and of each row whether it stands in a group.
+/// What is made of a file: what its objects declare, the rows of its objects and of its members, and of each of these whether it
+/// stands in a group.
 #[derive(Drop)]
 pub struct UnitTable {
     pub names: UnitNames,
+    pub objects: Vec<ObjectRow>,
     pub rows: Vec<UnitRow>,
     pub inside: Vec<bool>,
 }
@@ -41,7 +43,7 @@ pub fn document_table(
 ) -> Result<UnitTable, NoMemory>
     requires { IsDocument tree.now }
     ensures { (d : Document) → listed_document d ≡ tree.now →
-        IfOk result (λ made. TableOf program.now (unit_of (file_of file.now) (is_document d)) tree.now made.names made.rows.items made.inside.items) }
+        IfOk result (λ made. TableOf program.now (unit_of (file_of file.now) (is_document d)) tree.now made.names made.objects.items made.rows.items made.inside.items) }
 {
     let here = directory_of(&file.path);
     let imports = imports_of(alloc, tree, here)?;
@@ -52,6 +54,7 @@ pub fn document_table(
     let names = unit_names(alloc, &bases, &rows)?;
     Ok(UnitTable {
         names,
+        objects: found.objects,
         rows,
         inside,
     })
@@ -63,7 +66,7 @@ pub fn empty_table(
     program: &ProgramFiles,
     file: &File,
 ) -> Result<UnitTable, NoMemory>
-    ensures { (s : Source) → is_nothing s ≡ true → IfOk result (λ made. TableOf program.now (unit_of (file_of file.now) s) [] made.names made.rows.items made.inside.items) }
+    ensures { (s : Source) → is_nothing s ≡ true → IfOk result (λ made. TableOf program.now (unit_of (file_of file.now) s) [] made.names made.objects.items made.rows.items made.inside.items) }
 {
     let base = nameless_type(alloc, program, directory_of(&file.path))?;
     let mut bases = Vec::new(alloc);
@@ -71,8 +74,11 @@ pub fn empty_table(
     let rows = Vec::new(alloc);
     let names = unit_names(alloc, &bases, &rows)?;
     let inside = Vec::new(alloc);
+    let mut objects = Vec::new(alloc);
+    objects.push(ObjectRow { node: 0, row: None })?;
     Ok(UnitTable {
         names,
+        objects,
         rows,
         inside,
     })
@@ -86,7 +92,7 @@ pub fn file_table(
     content: &Content,
 ) -> Result<UnitTable, NoMemory>
     requires { (s : Source) × Shows content.now s }
-    ensures { (s : Source) → Shows content.now s → IfOk result (λ made. TableOf program.now (unit_of (file_of file.now) s) (tree_in content.now) made.names made.rows.items made.inside.items) }
+    ensures { (s : Source) → Shows content.now s → IfOk result (λ made. TableOf program.now (unit_of (file_of file.now) s) (tree_in content.now) made.names made.objects.items made.rows.items made.inside.items) }
 {
     match content {
         Content::Document(tree) => document_table(alloc, program, file, tree),

@@ -10,6 +10,7 @@ ghost use Rattle.program_reading.specs.Known.{Holds, AreOf};
 ghost use Rattle.document_tables.specs.Tables.{FileMade, AllMade, AreTables};
 
 use crate::document::{UnitTable, file_table};
+use document_rows::ObjectRow;
 use file_sources::Content;
 use program_reading::KnownFiles;
 use program_tables::{BuiltInNames, Names, UnitNames, UnitRow, tables_of_rows_stand};
@@ -21,10 +22,11 @@ use std::alloc::Global;
 use std::rc::Rc;
 use type_search::SearchFault;
 
-/// A file of a program: what it is, its rows, and of each row whether it stands in a group.
+/// A file of a program: what it is, the rows of its objects and of its members, and of each of these whether it stands in a group.
 #[derive(Drop)]
 pub struct DocumentTable {
     pub content: Rc<Content>,
+    pub objects: Vec<ObjectRow>,
     pub rows: Vec<UnitRow>,
     pub inside: Vec<bool>,
 }
@@ -64,12 +66,13 @@ fn known_table<F: Files>(
 
 /// A table in its two parts.
 fn split(made: UnitTable, content: Rc<Content>) -> (UnitNames, DocumentTable)
-    ensures { (result.0 ≡ made.names) × (result.1.content ≡ content) × (result.1.rows ≡ made.rows) × (result.1.inside ≡ made.inside) }
+    ensures { (result.0 ≡ made.names) × (result.1.content ≡ content) × (result.1.objects ≡ made.objects) × (result.1.rows ≡ made.rows) × (result.1.inside ≡ made.inside) }
 {
     (
         made.names,
         DocumentTable {
             content,
+            objects: made.objects,
             rows: made.rows,
             inside: made.inside,
         },

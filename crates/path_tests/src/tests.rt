@@ -5,17 +5,20 @@ use alias_tables::{component_ids, object_of_id};
 use document_components::document_ids;
 use document_members::{Member, NamePath};
 use document_rows::{MemberRow, ObjectRow};
+use document_tables::DocumentTable;
+use file_sources::Content;
 use load_passes::Best;
 use path_ends::{
     PathEnd, SeenObject, UnitAliases, UnitEnds, UnitIds, alias_ends, end_of_path, unit_aliases,
 };
 use program_names::Fault;
-use program_paths::{UnitSource, program_paths};
+use program_paths::program_paths;
 use program_tables::{BuiltInNames, Names, UnitRow, unit_names};
 use qml_base::{LoadCause, Place};
 use qml_text::Text;
 use qml_types::{PropKind, TypeNo, TypeRef};
 use std::alloc::Global;
+use std::rc::Rc;
 use std::test::Fail;
 
 fn place() -> Place {
@@ -255,10 +258,15 @@ fn paths_of_a_program_are_followed_by_its_rows(rt: HostRuntime) -> Result<(), Fa
     };
     let mut objects = Vec::new(alloc);
     objects.push(ObjectRow { node: 0, row: None })?;
-    let mut sources = Vec::new(alloc);
-    sources.push(UnitSource { objects, rows })?;
+    let mut documents = Vec::new(alloc);
+    documents.push(DocumentTable {
+        content: Rc::new(alloc, Content::Missing)?,
+        objects,
+        rows,
+        inside: Vec::new(alloc),
+    })?;
     let mut base = None;
-    if let Some(paths) = program_paths(alloc, &names, &sources)? {
+    if let Some(paths) = program_paths(alloc, &names, &documents)? {
         base = end_of_alias(alloc, &names, &paths.ends)?;
     }
     assert!(rt; base == Some(0));

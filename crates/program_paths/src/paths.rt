@@ -4,18 +4,11 @@ ghost use Rattle.std.specs.Prelude.{◌≡◌, IfOk};
 ghost use Rattle.program_paths.specs.Paths as s;
 
 use document_components::document_ids;
-use document_rows::ObjectRow;
+use document_tables::DocumentTable;
 use path_ends::{UnitAliases, UnitEnds, UnitIds, alias_ends, unit_aliases};
-use program_tables::{Names, UnitRow};
+use program_tables::Names;
 use qml_base::NoMemory;
 use std::alloc::Global;
-
-/// The rows of a document: its objects and its members.
-#[derive(Drop)]
-pub struct UnitSource {
-    pub objects: Vec<ObjectRow>,
-    pub rows: Vec<UnitRow>,
-}
 
 /// The ids of a program's components, its aliases, and where they end, by document.
 #[derive(Drop)]
@@ -25,12 +18,12 @@ pub struct ProgramPaths {
     pub ends: Vec<UnitEnds>,
 }
 
-/// What paths of a program are followed by, from the rows of its documents in their order. None where some object doesn't decide by what it is
+/// What paths of a program are followed by, from the tables of its documents in their order. None where some object doesn't decide by what it is
 /// written as whether it begins a component. It takes time by the number of objects and rows.
 pub fn program_paths(
     alloc: Global,
     names: &Names,
-    sources: &[UnitSource],
+    sources: &[DocumentTable],
 ) -> Result<Option<ProgramPaths>, NoMemory>
     ensures { IfOk result (λ made. s.ArePaths names.now.units.items sources.now made) }
 {
@@ -49,7 +42,7 @@ pub fn program_paths(
 fn all_ids(
     alloc: Global,
     names: &Names,
-    sources: &[UnitSource],
+    sources: &[DocumentTable],
 ) -> Result<Option<Vec<UnitIds>>, NoMemory>
     ensures { IfOk result (λ found. s.FoundIds names.now.units.items sources.now found) }
 {
@@ -67,7 +60,7 @@ fn ids_of(
     alloc: Global,
     names: &Names,
     document: usize,
-    source: &UnitSource,
+    source: &DocumentTable,
 ) -> Result<Option<UnitIds>, NoMemory>
     ensures { IfOk result (λ found. s.IdsOf names.now.units.items document source.now found) }
 {
@@ -79,7 +72,7 @@ fn ids_of(
 fn with_ids(
     alloc: Global,
     names: &Names,
-    sources: &[UnitSource],
+    sources: &[DocumentTable],
     ids: Vec<UnitIds>,
 ) -> Result<ProgramPaths, NoMemory>
     ensures { IfOk result (λ made. s.HasPaths names.now.units.items sources.now ids.items made) }
@@ -91,7 +84,7 @@ fn with_ids(
 
 /// The aliases of all documents.
 #[tactic(auto, using(crate::proofs::PathsLemmas::one_more_unit, crate::proofs::PathsLemmas::no_aliases, crate::proofs::PathsLemmas::aliases_done))]
-fn all_aliases(alloc: Global, sources: &[UnitSource]) -> Result<Vec<UnitAliases>, NoMemory>
+fn all_aliases(alloc: Global, sources: &[DocumentTable]) -> Result<Vec<UnitAliases>, NoMemory>
     ensures { IfOk result (λ all. s.AllAliases sources.now all.items) }
 {
     let mut all = Vec::new(alloc);
@@ -102,7 +95,7 @@ fn all_aliases(alloc: Global, sources: &[UnitSource]) -> Result<Vec<UnitAliases>
     Ok(all)
 }
 
-fn aliases_of(alloc: Global, source: &UnitSource) -> Result<UnitAliases, NoMemory>
+fn aliases_of(alloc: Global, source: &DocumentTable) -> Result<UnitAliases, NoMemory>
     ensures { IfOk result (λ unit. s.AliasesOf source.now unit) }
 {
     let aliases = unit_aliases(alloc, &source.rows)?;

@@ -1,0 +1,11 @@
+//! The load faults of documents that are told so far: DuplicateId, the names that are used twice, and BadAlias. They are searched over
+//! the tables of a program and what its paths are followed by, document after document. It promises that the first of them is told.
+#![tactic(auto)]
+
+mod document;
+mod files;
+mod order;
+
+pub use document::tell_document;
+pub use files::{Found, first_of_files};
+pub use order::first_of_program;

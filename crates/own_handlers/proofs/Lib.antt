@@ -1,0 +1,2 @@
+pub mod SignalLemmas
+pub mod HandlerLemmas

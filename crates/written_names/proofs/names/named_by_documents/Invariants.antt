@@ -1,0 +1,9 @@
+use Rattle.std.proofs.Common.{◌≡◌, drop}
+use Rattle.std.specs.List.{find, flat_map}
+use Rattle.instance_plans.specs.Plans.{is_named}
+use Rattle.unit_rows.specs.Seen.{all_seen}
+use Rattle.written_names.specs.Written.{names_of_root}
+use Rattle.written_names.proofs.names.named_by_documents.Given as goal
+
+abbrev pub invariant-documents : goal.invariant-documents
+invariant-documents l = find (is_named l.name) (flat_map (names_of_root (all_seen l.units)) (drop l.document-index l.documents)) ≡ find (is_named l.name) (flat_map (names_of_root (all_seen l.units)) l.documents)
