@@ -158,8 +158,8 @@ fn push_all<'a>(
 }
 
 /// Puts the deliveries of the handlers for a signal of an object, of the live Connections that aren't condemned, are enabled, and
-/// have the object as their target: by number, and in the order of writing (Qt 5.15, Connections). Without memory a front of them
-/// may have been put.
+/// have the object as their target: by number, and in the order of writing (Qt 5.15, Connections). The units of what is heard are
+/// those of the machine. Without memory a front of them may have been put.
 pub fn push_connections<'a>(
     alloc: Global,
     state: &State<'a>,
