@@ -160,3 +160,13 @@ reaction_alone m o s args t list is same reacted =
     reacted ∙ ap (λ u. reactions o u s) same ∙ reacts_so o (builtin_in m o) s
     ∙ sym (append-nil r) ∙ sym (append-nil (r ++ []))
     ∙ ap (λ ds. r ++ [] ++ ds) (sym (nothing_aimed m o s args)) ∙ ap (parts m o s args) (sym is) ∙ stand m o s args
+
+-- ---- the law
+
+pub by_parts : (m : Machine) (o : ObjNo) (s : Signal) (args : List Value) (x : Planned) → written_at m o ≡ Some x
+    → deliveries m o s args ≡ reactions o (builtin_in m o) s ++ (own_deliveries m.units x o s args ++ heard_at m x o s args)
+by_parts m o s args x is =
+    sym (all_listed m o s args x (builtin_in m o) (reactions o (builtin_in m o) s) (reactions o (builtin_in m o) s ++ of_written m x o s args) is refl refl refl)
+
+pub without_rows : (m : Machine) (o : ObjNo) (s : Signal) (args : List Value) → written_at m o ≡ None → deliveries m o s args ≡ reactions o (builtin_in m o) s
+without_rows m o s args is = sym (reaction_alone m o s args (builtin_in m o) (reactions o (builtin_in m o) s) is refl refl)

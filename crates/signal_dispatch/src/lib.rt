@@ -7,9 +7,11 @@ mod aimed;
 mod connections;
 mod copying;
 mod delivering;
+mod laws;
 mod live;
 
 pub use aimed::Heard;
 pub use connections::{is_enabled_on, push_connections};
 pub use delivering::{deliveries, is_left_out};
+pub use laws::deliveries_by_parts;
 pub use live::{builtin_in, is_condemned, written_at};
