@@ -69,7 +69,7 @@ member_owner us d o w g (m.Signal q n at names) c role i r = none_some c i
 member_owner us d o w g (m.Method q f n at) c role i r = none_some c i
 member_owner us d o w g (m.Group path) c role i r = none_some c i
 
-object_owner : (p : Program) (us : List UnitNames) (d o : ℕ) (rows : List UnitRow) (row : Option ℕ) (c : Bool) → ObjectSays p us d rows o row → decision us d o rows row ≡ Some c → owner_in rows row ≡ owner p d o
+pub object_owner : (p : Program) (us : List UnitNames) (d o : ℕ) (rows : List UnitRow) (row : Option ℕ) (c : Bool) → ObjectSays p us d rows o row → decision us d o rows row ≡ Some c → owner_in rows row ≡ owner p d o
 object_owner p us d o rows None c s i = sym (ap owner_by s)
 object_owner p us d o rows (Some k) c s i = by_there (slice_get rows k) refl i
   where
@@ -96,14 +96,14 @@ abbrev is_true : IsRoot → Bool
 is_true (Some b) = b
 is_true None = false
 
-abbrev root_within : ℕ → Program → Roots → ℕ → ℕ → ℕ
+abbrev pub root_within : ℕ → Program → Roots → ℕ → ℕ → ℕ
 root_within zero p roots d o = 0
 root_within (suc n) p roots d o = elim (is_true (is_root_at roots d o)) [ true ↦ o | false ↦ around o (λ w. root_within n p roots d w) (owner p d o) ]
 
 root_so : (p : Program) (roots : Roots) (d o : ℕ) → root_of p roots d o ≡ root_within (length (unit_at p d).objects) p roots d o
 root_so p roots d o = refl
 
-root_low : (p : Program) (roots : Roots) (d : ℕ) → OwnersAreLower p d → (n o : ℕ) → root_within n p roots d o ≤ o
+pub root_low : (p : Program) (roots : Roots) (d : ℕ) → OwnersAreLower p d → (n o : ℕ) → root_within n p roots d o ≤ o
 root_low p roots d lower zero o = omega arith
 root_low p roots d lower (suc n) o = by_begin (is_true (is_root_at roots d o)) (by_owner (owner p d o) refl (λ w. root_low p roots d lower n w))
   where

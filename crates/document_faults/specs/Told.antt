@@ -7,11 +7,17 @@ use Rattle.program_names.specs.ComponentRoots.{roots_of}
 use Rattle.load_faults.specs.Faults.{Faults, first_fault}
 use Rattle.load_faults.specs.Duplicates.{duplicate_ids}
 use Rattle.load_faults.specs.Aliases.{bad_aliases}
+use Rattle.load_faults.specs.Properties.{unknown_properties, read_only_values}
 use Rattle.name_faults.specs.Names.{faults_by_names}
 
--- ids that stand twice in a component, names that are used twice, and aliases that end at nothing
+-- what is given for nothing that the object has, and for what isn't to be given
+abbrev pub faults_of_given : Program → Roots → ℕ → Faults
+faults_of_given p roots d = unknown_properties p roots d ++ read_only_values p roots d
+
+-- ids that stand twice in a component, names that are used twice, aliases that end at nothing, and these
 abbrev pub faults_told : Program → Roots → ℕ → Faults
-faults_told p roots d = duplicate_ids p roots d ++ (faults_by_names p d ++ bad_aliases p roots d)
+faults_told p roots d =
+    duplicate_ids p roots d ++ (faults_by_names p d ++ (bad_aliases p roots d ++ faults_of_given p roots d))
 
 abbrev pub first_in_document : Program → ℕ → Option Fault
 first_in_document p d = first_fault (faults_told p (roots_of p) d)

@@ -9,14 +9,17 @@ ghost use Rattle.load_faults.specs.Aliases.{bad_aliases};
 ghost use Rattle.document_tables.specs.declared.program.ProgramTables as t;
 ghost use Rattle.document_tables.specs.Tables.{TellProgram};
 ghost use Rattle.program_paths.specs.Paths.{ArePaths};
+ghost use Rattle.program_meanings.specs.Made.{AreMeanings};
 ghost use Rattle.document_faults.specs.Told as s;
 
+use crate::given::tell_given;
 use alias_faults::tell_bad_aliases;
 use document_tables::ProgramTables;
 use id_faults::tell_duplicate_ids;
 use load_passes::Best;
 use name_faults::tell_names;
 use path_ends::{UnitAliases, UnitIds};
+use program_meanings::ProgramMeanings;
 use program_paths::ProgramPaths;
 use qml_base::NoMemory;
 use std::alloc::Global;
@@ -63,22 +66,26 @@ fn tell_aliases(paths: &ProgramPaths, document: usize, best: &mut Best)
     }
 }
 
-/// Tells, of the document of a number, each id that stands a second time in its component, each name that is used twice (`tell_names`) and
-/// each alias that ends at nothing (Qt 5.15, "QML Object Attributes"). What is kept is the first of these faults and of what was kept
-/// before. Want of memory is the one error; some of the faults may be told then.
+/// Tells, of the document of a number, each id that stands a second time in its component, each name that is used twice (`tell_names`),
+/// each alias that ends at nothing, each value, group and child object for which the object has nothing, each for a property that isn't to
+/// be given one, or for a whole object, and each value that has to be a literal and isn't (Qt 5.15, "QML Object Attributes"). What is kept is
+/// the first of these faults and of what was kept before. Want of memory is the one error; some of the faults may be told then.
 pub fn tell_document(
     alloc: Global,
     tables: &ProgramTables,
     paths: &ProgramPaths,
+    meanings: &ProgramMeanings,
     document: usize,
     best: &mut Best,
 ) -> Result<(), NoMemory>
     ensures { (p : Program) → TellProgram p tables.now →
         ArePaths tables.now.names.units.items tables.now.documents.items (Some paths.now) →
+        AreMeanings tables.now.names.units.items tables.now.documents.items paths.now.ids.items meanings.now →
         OnOk result (best.new.fault ≡ first_from best.old.fault (s.faults_told p (roots_of p) document)) }
 {
     tell_ids(alloc, tables, paths, document, best)?;
     tell_names(alloc, tables, document, best)?;
     tell_aliases(paths, document, best);
+    tell_given(alloc, tables, paths, meanings, document, best)?;
     Ok(())
 }

@@ -11,6 +11,7 @@ ghost use Rattle.document_faults.specs.Found.{IsFound};
 
 use crate::order::first_of_program;
 use document_tables::{ProgramTables, tables_of_program};
+use program_meanings::program_meanings;
 use program_names::Fault;
 use program_paths::program_paths;
 use program_reading::KnownFiles;
@@ -35,7 +36,8 @@ fn first_of_tables(alloc: Global, tables: &ProgramTables) -> Result<Found, NoMem
 {
     match program_paths(alloc, &tables.names, &tables.documents)? {
         Some(paths) => {
-            let first = first_of_program(alloc, tables, &paths)?;
+            let meanings = program_meanings(alloc, tables, &paths)?;
+            let first = first_of_program(alloc, tables, &paths, &meanings)?;
             Ok(Found::First(first))
         }
         None => Ok(Found::Undecided),

@@ -5,11 +5,13 @@ ghost use Rattle.program_names.specs.Loaded.{Program};
 ghost use Rattle.document_tables.specs.Tables.{TellProgram};
 ghost use Rattle.name_faults.specs.Names.{first_found};
 ghost use Rattle.program_paths.specs.Paths.{ArePaths};
+ghost use Rattle.program_meanings.specs.Made.{AreMeanings};
 ghost use Rattle.document_faults.specs.Told as s;
 
 use crate::document::tell_document;
 use document_tables::ProgramTables;
 use load_passes::Best;
+use program_meanings::ProgramMeanings;
 use program_names::Fault;
 use program_paths::ProgramPaths;
 use qml_base::NoMemory;
@@ -20,14 +22,16 @@ fn first_in(
     alloc: Global,
     tables: &ProgramTables,
     paths: &ProgramPaths,
+    meanings: &ProgramMeanings,
     document: usize,
 ) -> Result<Option<Fault>, NoMemory>
     ensures { (p : Program) → TellProgram p tables.now →
         ArePaths tables.now.names.units.items tables.now.documents.items (Some paths.now) →
+        AreMeanings tables.now.names.units.items tables.now.documents.items paths.now.ids.items meanings.now →
         IfOk result (λ found. found ≡ s.first_in_document p document) }
 {
     let mut best = Best::new();
-    tell_document(alloc, tables, paths, document, &mut best)?;
+    tell_document(alloc, tables, paths, meanings, document, &mut best)?;
     Ok(best.fault)
 }
 
@@ -38,14 +42,16 @@ pub fn first_of_program(
     alloc: Global,
     tables: &ProgramTables,
     paths: &ProgramPaths,
+    meanings: &ProgramMeanings,
 ) -> Result<Option<(usize, Fault)>, NoMemory>
     ensures { (p : Program) → TellProgram p tables.now →
         ArePaths tables.now.names.units.items tables.now.documents.items (Some paths.now) →
+        AreMeanings tables.now.names.units.items tables.now.documents.items paths.now.ids.items meanings.now →
         IfOk result (λ found. found ≡ first_found (s.first_in_document p) 0 (length p)) }
 {
     let documents = tables.documents.as_slice();
     'documents: for document in 0..documents.len() {
-        match first_in(alloc, tables, paths, document)? {
+        match first_in(alloc, tables, paths, meanings, document)? {
             Some(fault) => return Ok(Some((document, fault))),
             None => {}
         }

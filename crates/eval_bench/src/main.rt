@@ -1,5 +1,6 @@
 //! Evaluates expressions over a plain view, and says what each comes to. With the word `speed` each is evaluated many
-//! times, and the processor's time of one is told. It is no part of the product.
+//! times, and the processor's time of one is told. With two numbers the expression of the first is evaluated as often as
+//! the second says, so that something outside can count. It is no part of the product.
 #![tactic(auto)]
 
 ghost use Rattle.std.specs.Prelude.{◌≡◌, ◌<◌};
@@ -165,6 +166,20 @@ fn evaluated<L: Ledger>(
     values
 }
 
+/// The text of a case.
+fn text_of(alloc: Global, case: Case) -> Option<OneText> {
+    text(alloc, case.source, case.body)
+}
+
+/// What the cells hold.
+fn view() -> Plain {
+    Plain {
+        f: Value::Bool(true),
+        a: Value::Num(Num::small(4)),
+        rows: Value::Null,
+    }
+}
+
 /// Evaluates an expression, tells how often it came to a value, and gives the time of one, which it tells where that is asked for.
 fn tell<L: Ledger>(
     rt: &HostRuntime,
@@ -174,18 +189,13 @@ fn tell<L: Ledger>(
 ) -> io::Result<u64> {
     let alloc = rt.alloc();
     let source = case.source;
-    let Some(code) = text(alloc, source, case.body) else {
+    let Some(code) = text_of(alloc, case) else {
         println!(rt; "{source}: no memory")?;
         return Ok(0);
     };
-    let view = Plain {
-        f: Value::Bool(true),
-        a: Value::Num(Num::small(4)),
-        rows: Value::Null,
-    };
     let count = if timed { case.often } else { 10 };
     let begun = nanos(rt)?;
-    let values = evaluated(alloc, &code, &view, count, steps);
+    let values = evaluated(alloc, &code, &view(), count, steps);
     let took = nanos(rt)?.saturating_sub(begun) / u64::from(count.max(1));
     if timed {
         println!(rt; "{source}: {values} values, {took} nanoseconds each")?;
@@ -215,7 +225,37 @@ fn measure<L: Ledger>(rt: &HostRuntime, timed: bool, blank: Blank) -> io::Result
     Ok(())
 }
 
+/// Evaluates one case so often, and tells how often it came to a value.
+fn repeat<L: Ledger>(rt: &HostRuntime, case: Case, count: u32, blank: Blank) -> io::Result<()>
+    requires name { blank.name ≡ L.name }
+    requires parts { blank.parts ≡ L.parts }
+    requires some { 0 < L.parts }
+{
+    let mut steps = Steps::<L>::new(blank);
+    let alloc = rt.alloc();
+    let source = case.source;
+    let values = match text_of(alloc, case) {
+        Some(code) => evaluated(alloc, &code, &view(), count, &mut steps),
+        None => 0,
+    };
+    println!(rt; "{source}: {values} values")
+}
+
+/// The case of a number.
+fn case_of(number: &str) -> Option<Case> {
+    let number = number.parse::<usize>().ok()?;
+    CASES.get(number).copied()
+}
+
 fn main(rt: HostRuntime) -> io::Result<()> {
-    let timed = env::args(&rt)?.skip(1).next().is_some();
-    measure::<Brand>(&rt, timed, Blank::new(1))
+    let mut words = env::args(&rt)?.skip(1);
+    let first = words.next();
+    let second = words.next();
+    match (first.as_deref(), second.as_deref()) {
+        (Some(number), Some(count)) => match (case_of(number), count.parse::<u32>().ok()) {
+            (Some(case), Some(count)) => repeat::<Brand>(&rt, case, count, Blank::new(1)),
+            _ => println!(rt; "no such case"),
+        },
+        (first, _) => measure::<Brand>(&rt, first.is_some(), Blank::new(1)),
+    }
 }

@@ -5,13 +5,14 @@ ghost use Rattle.js_frames.specs.Awaiting.{awaits_spot};
 
 use evaluation::{Args, Evaluated};
 use js_fields::Entries;
-use js_locals::Locals;
+use js_locals::{DeclaredNames, Locals};
 use js_meaning::Rounding;
 use qml_base::{CellNo, ExprNo, Found, Home, ObjNo, UnitNo};
 use qml_syntax::{Declaration, Operator, Prefix};
 use qml_value::Value;
 use std::alloc::{AllocFailed, Global};
 use std::marker::Model;
+use std::mem;
 
 /// What stands before a step. Names are told by the places of their nodes.
 #[derive(Drop)]
@@ -192,10 +193,20 @@ pub enum Next {
     Ended(Evaluated),
 }
 
-/// Frames, of which the latest awaits a value. Contracts see it in front.
+/// Room that was used before: what the next call or block needs takes no memory as long as some is kept.
+#[derive(Drop)]
+struct Room {
+    arguments: Vec<Args>,
+    locals: Vec<Locals>,
+    names: DeclaredNames,
+}
+
+/// Frames, of which the latest awaits a value. Contracts see it in front. Room that calls and blocks no longer need is kept
+/// beside them for the next ones; no contract speaks of it.
 #[derive(Drop)]
 pub struct Stack {
     frames: Vec<Frame>,
+    room: Room,
 }
 
 impl Model for Stack {
@@ -212,12 +223,17 @@ impl Model for Stack {
 }
 
 impl Stack {
-    /// No frame.
+    /// No frame, and no room yet. It takes no memory.
     pub fn new(alloc: Global) -> Stack
         ensures { result ≡ [] }
     {
         Stack {
             frames: Vec::new(alloc),
+            room: Room {
+                arguments: Vec::new(alloc),
+                locals: Vec::new(alloc),
+                names: DeclaredNames::new(alloc),
+            },
         }
     }
 
@@ -241,6 +257,74 @@ impl Stack {
     {
         self.frames.pop()
     }
+
+    /// No argument, in room that was kept.
+    pub fn take_arguments(&mut self, alloc: Global) -> Args
+        ensures none { result ≡ [] }
+        ensures frames { self.new ≡ self.old }
+    {
+        match self.room.arguments.pop() {
+            Some(arguments) => emptied(arguments),
+            None => Args::of_vec(Vec::new(alloc)),
+        }
+    }
+
+    /// Keeps the room of these arguments, where there is memory for its place.
+    pub fn keep_arguments(&mut self, arguments: Args)
+        ensures { self.new ≡ self.old }
+    {
+        let _kept = self.room.arguments.push(emptied(arguments));
+    }
+
+    /// No local, in room that was kept.
+    pub fn take_locals(&mut self, alloc: Global) -> Locals
+        ensures none { result ≡ [] }
+        ensures frames { self.new ≡ self.old }
+    {
+        match self.room.locals.pop() {
+            Some(locals) => cleared(locals),
+            None => Locals::new(alloc),
+        }
+    }
+
+    /// Keeps the room of these locals, where there is memory for its place.
+    pub fn keep_locals(&mut self, locals: Locals)
+        ensures { self.new ≡ self.old }
+    {
+        let _kept = self.room.locals.push(cleared(locals));
+    }
+
+    /// The room in which names that are declared were gathered.
+    pub fn take_names(&mut self, alloc: Global) -> DeclaredNames
+        ensures { self.new ≡ self.old }
+    {
+        mem::replace(&mut self.room.names, DeclaredNames::new(alloc))
+    }
+
+    /// Keeps the room in which names that are declared were gathered.
+    pub fn keep_names(&mut self, names: DeclaredNames)
+        ensures { self.new ≡ self.old }
+    {
+        self.room.names = names;
+    }
+}
+
+/// No argument, in the room of these.
+fn emptied(arguments: Args) -> Args
+    ensures { result ≡ [] }
+{
+    let mut values = arguments.into_values();
+    values.clear();
+    Args::of_vec(values)
+}
+
+/// No local, in the room of these.
+fn cleared(locals: Locals) -> Locals
+    ensures { result ≡ [] }
+{
+    let mut locals = locals;
+    locals.clear();
+    locals
 }
 
 /// Whether the last of these frames awaits what is assigned to.

@@ -1,4 +1,5 @@
 pub mod LaidLemmas
+pub mod PlacedLemmas
 pub mod NodeLemmas
 pub mod RowLemmas
 pub mod ScopeLemmas

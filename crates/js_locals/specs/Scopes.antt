@@ -1,5 +1,5 @@
 -- The scopes of a call in one list: the latest local in front, and behind the locals of each scope what begins it.
-use Rattle.std.specs.Prelude.{ℕ, Bool as 𝔹, true, false, if◌then◌else◌, List, [], ◌∷◌, ◌++◌, Option, Some, None}
+use Rattle.std.specs.Prelude.{◌≡◌, ℕ, ◌<◌, Bool as 𝔹, true, false, if◌then◌else◌, List, [], ◌∷◌, ◌++◌, length, take, drop, reverse, Option, Some, None}
 use Rattle.qml_value.specs.declared.value.Value.{Value, Undefined}
 use Rattle.js_meaning.specs.Operate.{same_units}
 use Rattle.js_meaning.specs.Locals.{Held, dead, alive, Slot, Scope, first_or_undefined, others}
@@ -48,10 +48,33 @@ abbrev pub put_by : Laid → List ℕ → 𝔹 → Value → List Local → List
 put_by c n w v [] = []
 put_by c n w v (l ∷ ls) = if named_by c n l then given_value w v l ∷ ls else l ∷ put_by c n w v ls
 
--- these, of which the last comes first, before others
-abbrev pub laid_onto : List Local → List Local → List Local
-laid_onto [] ls = ls
-laid_onto (l ∷ aside) ls = laid_onto aside (l ∷ ls)
+-- the first of these with another value
+abbrev pub given_first : 𝔹 → Value → List Local → List Local
+given_first w v [] = []
+given_first w v (l ∷ ls) = given_value w v l ∷ ls
+
+-- the one at a place with another value
+abbrev pub given_at : ℕ → 𝔹 → Value → List Local → List Local
+given_at i w v ls = take i ls ++ given_first w v (drop i ls)
+
+abbrev pub given_where : Option ℕ → 𝔹 → Value → List Local → List Local
+given_where None w v ls = ls
+given_where (Some i) w v ls = given_at i w v ls
+
+abbrev pub within : Option ℕ → List Local → Type 0
+within None ls = Unit {0}
+within (Some i) ls = i < length ls
+
+-- of locals with the latest last: where another value for a name goes
+pub record Placed (c : Laid) (n : List ℕ) (ls : List Local) (o : Option ℕ) : Type 0 where
+  pub there : within o ls
+  pub put : (w : 𝔹) (v : Value) → put_by c n w v (reverse ls) ≡ reverse (given_where o w v ls)
+
+-- the rest of them, behind those that are left, has none of this name
+pub record Unplaced (c : Laid) (n : List ℕ) (ls left : List Local) : Type 0 where
+  pub rest : List Local
+  pub whole : left ++ rest ≡ ls
+  pub put : (w : 𝔹) (v : Value) → put_by c n w v (reverse ls) ≡ reverse rest ++ put_by c n w v (reverse left)
 
 -- ---- scopes that are opened and left
 

@@ -1,6 +1,6 @@
 //! The names that statements declare.
 
-ghost use Rattle.std.specs.Prelude.{◌≡◌, ◌∷◌, [], Bool as 𝔹, false, true, None, if◌then◌else◌, reverse, IfOk};
+ghost use Rattle.std.specs.Prelude.{◌≡◌, ◌∷◌, ◌++◌, [], Bool as 𝔹, false, true, None, if◌then◌else◌, reverse, IfOk, MatchOption};
 ghost use Rattle.qml_syntax.specs.Opened.{node_of};
 ghost use Rattle.js_meaning.specs.Locals.{is_var, lets_of, vars_of_all};
 ghost use Rattle.js_locals.specs.Laid.{laid, stmts_in};
@@ -11,6 +11,42 @@ use crate::parts::{first_part, for_parts, is_var, is_var_node, next_part, node_a
 use qml_syntax::{Declaration, Node, Tree};
 use qml_text::NoMemory;
 use std::alloc::Global;
+use std::marker::Model;
+
+/// The names that statements declare, told by their places, with the room in which they were gathered. Contracts see the
+/// list of the places.
+#[derive(Drop)]
+pub struct DeclaredNames {
+    pending: Vec<usize>,
+    places: Vec<usize>,
+}
+
+impl Model for DeclaredNames {
+    ghost use Rattle.std.specs.Prelude.{ℕ, List};
+
+    ghost Value = { List ℕ };
+
+    ghost view = { λ d. d.places.items };
+}
+
+impl DeclaredNames {
+    /// No name, and no room yet. It takes no memory.
+    pub fn new(alloc: Global) -> DeclaredNames
+        ensures { result ≡ [] }
+    {
+        DeclaredNames {
+            pending: Vec::new(alloc),
+            places: Vec::new(alloc),
+        }
+    }
+
+    /// Takes the last name.
+    pub(crate) fn pop(&mut self) -> Option<usize>
+        ensures { MatchOption result ((self.old ≡ []) × (self.new ≡ self.old)) (λ p. self.old ≡ self.new ++ p ∷ []) }
+    {
+        self.places.pop()
+    }
+}
 
 /// What stands inside a statement.
 #[derive(Clone, Copy)]
@@ -89,21 +125,25 @@ fn add_names(tree: &Tree, var: bool, mark: usize, names: &mut Vec<usize>) -> Res
     Ok(())
 }
 
-/// The names with which a `for` begins, if it declares them by `let` or `const`.
+/// The names with which a `for` begins, if it declares them by `let` or `const`, in this room.
 #[tactic(auto, using(crate::proofs::GatheringLemmas::first_names_are))]
 pub fn first_names(
-    alloc: Global,
     tree: &Tree,
     var: bool,
     mark: usize,
-) -> Result<Vec<usize>, NoMemory>
-    ensures { IfOk result (λ names. fresh_slots (laid tree.now) false names.items [] ≡ (if var then [] else names_in false ((laid tree.now).rest mark) [])) }
+    room: DeclaredNames,
+) -> Result<DeclaredNames, NoMemory>
+    ensures { IfOk result (λ names. fresh_slots (laid tree.now) false names [] ≡ (if var then [] else names_in false ((laid tree.now).rest mark) [])) }
 {
-    let mut names = Vec::new(alloc);
+    let mut places = room.places;
+    places.clear();
     if !var {
-        add_names(tree, false, mark, &mut names)?;
+        add_names(tree, false, mark, &mut places)?;
     }
-    Ok(names)
+    Ok(DeclaredNames {
+        pending: room.pending,
+        places,
+    })
 }
 
 /// The row inside a block, where it counts for the names that are asked for.
@@ -269,36 +309,46 @@ fn walked(
 /// The names of the statements from one on: by `var` however deep, or else by `let` and `const` for their own block.
 #[tactic(auto, using(crate::proofs::GatheringLemmas::gathers_first, crate::proofs::GatheringLemmas::gathers_on))]
 fn gathered(
-    alloc: Global,
     tree: &Tree,
     var: bool,
     first: Option<usize>,
-) -> Result<Vec<usize>, NoMemory>
-    ensures { IfOk result (λ names. Gathers (laid tree.now) var first [] names.items) }
+    room: DeclaredNames,
+) -> Result<DeclaredNames, NoMemory>
+    ensures { IfOk result (λ names. Gathers (laid tree.now) var first [] names) }
 {
-    let mut pending = Vec::new(alloc);
-    let mut names = Vec::new(alloc);
+    let mut pending = room.pending;
+    let mut places = room.places;
+    pending.clear();
+    places.clear();
     push_row(&mut pending, first)?;
     'rows: while let Some(at) = pending.pop() {
-        walked(tree, var, at, &mut pending, &mut names)?;
+        walked(tree, var, at, &mut pending, &mut places)?;
     }
-    Ok(names)
+    Ok(DeclaredNames { pending, places })
 }
 
-/// The names that the statements from one on declare by `var`, however deep in their blocks.
+/// The names that the statements from one on declare by `var`, however deep in their blocks, in this room.
 #[tactic(auto, using(crate::proofs::GatheringLemmas::var_names_are))]
-pub fn var_names(alloc: Global, tree: &Tree, first: Option<usize>) -> Result<Vec<usize>, NoMemory>
-    ensures { IfOk result (λ names. fresh_slots (laid tree.now) true names.items [] ≡ vars_of_all (stmts_in (row_from (laid tree.now) first)) []) }
+pub fn var_names(
+    tree: &Tree,
+    first: Option<usize>,
+    room: DeclaredNames,
+) -> Result<DeclaredNames, NoMemory>
+    ensures { IfOk result (λ names. fresh_slots (laid tree.now) true names [] ≡ vars_of_all (stmts_in (row_from (laid tree.now) first)) []) }
 {
-    let names = gathered(alloc, tree, true, first)?;
+    let names = gathered(tree, true, first, room)?;
     Ok(names)
 }
 
-/// The names that the statements from one on declare by `let` and `const` for their block.
+/// The names that the statements from one on declare by `let` and `const` for their block, in this room.
 #[tactic(auto, using(crate::proofs::GatheringLemmas::let_names_are))]
-pub fn let_names(alloc: Global, tree: &Tree, first: Option<usize>) -> Result<Vec<usize>, NoMemory>
-    ensures { IfOk result (λ names. fresh_slots (laid tree.now) false names.items [] ≡ lets_of (stmts_in (row_from (laid tree.now) first))) }
+pub fn let_names(
+    tree: &Tree,
+    first: Option<usize>,
+    room: DeclaredNames,
+) -> Result<DeclaredNames, NoMemory>
+    ensures { IfOk result (λ names. fresh_slots (laid tree.now) false names [] ≡ lets_of (stmts_in (row_from (laid tree.now) first))) }
 {
-    let names = gathered(alloc, tree, false, first)?;
+    let names = gathered(tree, false, first, room)?;
     Ok(names)
 }

@@ -9,7 +9,7 @@ mod locals;
 mod names;
 mod parts;
 
-pub use gathering::{Inner, first_names, let_names, row_behind, var_names};
+pub use gathering::{DeclaredNames, Inner, first_names, let_names, row_behind, var_names};
 pub use locals::{Local, Locals, Writable, bind, declare, find, leave, put, writable_in};
 pub use names::{copied, name_of};
 pub use parts::{

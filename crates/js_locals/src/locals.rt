@@ -1,17 +1,19 @@
 //! The locals of a call.
 
-ghost use Rattle.std.specs.Prelude.{◌≡◌, [], ◌∷◌, None, reverse, OnOk, IfOk, MatchOption};
+ghost use Rattle.std.specs.Prelude.{◌≡◌, ◌<◌, [], ◌∷◌, None, length, reverse, OnOk, IfOk, MatchOption};
 ghost use Rattle.js_meaning.specs.Operate.{same_units};
 ghost use Rattle.js_locals.specs.Laid.{laid};
 ghost use Rattle.js_meaning.specs.Locals.{local};
-ghost use Rattle.js_locals.specs.Scopes.{writable_by, scopes_of, named_by, held_of, held_by, given_value, put_by, is_scope, laid_onto, outer, fresh, fresh_onto, parameters_onto};
+ghost use Rattle.js_locals.specs.Scopes.{writable_by, scopes_of, named_by, held_of, held_by, given_value, put_by, given_at, Placed, is_scope, outer, fresh, fresh_onto, parameters_onto};
 
+use crate::gathering::DeclaredNames;
 use crate::names::{copied, name_of};
 use qml_syntax::Tree;
 use qml_text::{NoMemory, Text};
 use qml_value::Value;
 use std::alloc::{AllocFailed, Global};
 use std::marker::Model;
+use std::mem;
 
 /// A local, or what begins a scope. Names are told by the places of their nodes.
 #[derive(Drop)]
@@ -65,6 +67,13 @@ impl Locals {
         ensures { MatchOption result ((self.old ≡ []) × (self.new ≡ self.old)) (λ l. self.old ≡ l ∷ self.new) }
     {
         self.locals.pop()
+    }
+
+    /// Takes all locals away. Their room stays.
+    pub fn clear(&mut self)
+        ensures { self.new ≡ [] }
+    {
+        self.locals.clear();
     }
 
     /// The locals, the latest last.
@@ -171,22 +180,34 @@ fn given_value(local: Local, writable: bool, value: Value) -> Local
     }
 }
 
-/// Puts these locals back, of which the last comes first.
-fn lay_onto(locals: &mut Locals, aside: Locals) -> Result<(), NoMemory>
-    ensures { IfOk result (λ _. locals.new ≡ laid_onto aside locals.old) }
+/// Where the local of a name stands among these, the latest of that name.
+#[tactic(auto, using(crate::proofs::PlacedLemmas::placed_here, crate::proofs::PlacedLemmas::unplaced_on, crate::proofs::PlacedLemmas::unplaced_first, crate::proofs::PlacedLemmas::placed_nowhere))]
+fn place_in(locals: &[Local], tree: &Tree, name: &Text) -> Result<Option<usize>, NoMemory>
+    ensures { IfOk result (λ o. Placed (laid tree.now) name.now locals.now o) }
 {
-    let mut aside = aside;
-    'aside: while let Some(local) = aside.pop() {
-        locals.push(local)?;
+    let mut left = locals;
+    'locals: while let Some((last, front)) = left.split_last() {
+        if is_named(last, tree, name)? {
+            return Ok(Some(front.len()));
+        }
+        left = front;
     }
-    Ok(())
+    Ok(None)
+}
+
+/// Gives the local at a place another value.
+fn give(locals: &mut Vec<Local>, at: usize, writable: bool, value: Value)
+    requires { at < length locals.old.items }
+    ensures { locals.new.items ≡ given_at at writable value locals.old.items }
+{
+    let local = mem::replace(&mut locals[at], Local::Scope);
+    locals[at] = given_value(local, writable, value);
 }
 
 /// Gives the local of a name another value, the innermost first.
-#[tactic(auto, using(crate::proofs::ScopeLemmas::put_here))]
+#[tactic(auto, using(crate::proofs::PlacedLemmas::put_at_place, crate::proofs::PlacedLemmas::put_nowhere))]
 pub fn put(
     locals: &mut Locals,
-    alloc: Global,
     tree: &Tree,
     name: &Text,
     writable: bool,
@@ -194,16 +215,11 @@ pub fn put(
 ) -> Result<(), NoMemory>
     ensures { IfOk result (λ _. locals.new ≡ put_by (laid tree.now) name.now writable value locals.old) }
 {
-    let mut aside = Locals::new(alloc);
-    'locals: while let Some(local) = locals.pop() {
-        if is_named(&local, tree, name)? {
-            locals.push(given_value(local, writable, value))?;
-            lay_onto(locals, aside)?;
-            return Ok(());
-        }
-        aside.push(local)?;
+    let found = place_in(&locals.locals, tree, name)?;
+    if let Some(at) = found {
+        give(&mut locals.locals, at, writable, value);
     }
-    lay_onto(locals, aside)
+    Ok(())
 }
 
 /// Whether it is what begins a scope.
@@ -238,16 +254,20 @@ fn fresh(var: bool, place: usize) -> Local
     }
 }
 
-/// Declares names in the innermost scope, the first of them as the latest.
+/// Declares names in the innermost scope, the first of them as the latest, and gives their room back.
 #[tactic(auto, using(crate::proofs::ScopeLemmas::fresh_last))]
-pub fn declare(locals: &mut Locals, var: bool, names: Vec<usize>) -> Result<(), NoMemory>
-    ensures { IfOk result (λ _. locals.new ≡ fresh_onto var names.items locals.old) }
+pub fn declare(
+    locals: &mut Locals,
+    var: bool,
+    names: DeclaredNames,
+) -> Result<DeclaredNames, NoMemory>
+    ensures { IfOk result (λ _. locals.new ≡ fresh_onto var names locals.old) }
 {
     let mut names = names;
     'names: while let Some(place) = names.pop() {
         locals.push(fresh(var, place))?;
     }
-    Ok(())
+    Ok(names)
 }
 
 /// Declares parameters with their arguments in the innermost scope.

@@ -40,7 +40,6 @@ fn added(machine: &mut Machine, frame: Frame, next: Next) -> Result<Next, NoMemo
 #[tactic(auto, using(js_locals::proofs::ScopeLemmas::put_scopes))]
 fn puts(
     machine: &mut Machine,
-    alloc: Global,
     tree: &Tree,
     name: &Text,
     writable: bool,
@@ -49,14 +48,13 @@ fn puts(
 ) -> Result<Next, NoMemory>
     ensures { IfOk result (λ y. Puts (laid tree.now) name.now (alive writable value) next (standing machine.old) (standing machine.new) y) }
 {
-    put(&mut machine.locals, alloc, tree, name, writable, value)?;
+    put(&mut machine.locals, tree, name, writable, value)?;
     Ok(next)
 }
 
 /// Assigns to a local.
 pub fn writes(
     machine: &mut Machine,
-    alloc: Global,
     tree: &Tree,
     name: &Text,
     value: Value,
@@ -65,7 +63,7 @@ pub fn writes(
     ensures { IfOk result (λ y. Writes (laid tree.now) name.now value next (standing machine.old) (standing machine.new) y) }
 {
     match writable_in(&machine.locals, tree, name)? {
-        Writable::Yes => puts(machine, alloc, tree, name, true, value, next),
+        Writable::Yes => puts(machine, tree, name, true, value, next),
         Writable::Readonly => Ok(threw(Cause::Readonly)),
         Writable::Nothing => Ok(threw(Cause::Name)),
     }
@@ -84,7 +82,6 @@ fn is_let(kind: Declaration) -> bool
 /// Declares the name at a place with a value.
 fn var_set(
     machine: &mut Machine,
-    alloc: Global,
     tree: &Tree,
     kind: Declaration,
     place: usize,
@@ -96,16 +93,15 @@ fn var_set(
     let name = name_of(tree, place)?;
     let next = Next::Vars(kind, part);
     if is_var(kind) {
-        writes(machine, alloc, tree, name, value, next)
+        writes(machine, tree, name, value, next)
     } else {
-        puts(machine, alloc, tree, name, is_let(kind), value, next)
+        puts(machine, tree, name, is_let(kind), value, next)
     }
 }
 
 /// Declares the name at a place without one.
 fn var_left(
     machine: &mut Machine,
-    alloc: Global,
     tree: &Tree,
     kind: Declaration,
     place: usize,
@@ -117,15 +113,7 @@ fn var_left(
         return Ok(next);
     }
     let name = name_of(tree, place)?;
-    puts(
-        machine,
-        alloc,
-        tree,
-        name,
-        is_let(kind),
-        Value::Undefined,
-        next,
-    )
+    puts(machine, tree, name, is_let(kind), Value::Undefined, next)
 }
 
 /// Where the value of the name at a place stands, if it has one.
@@ -148,7 +136,6 @@ fn value_place(tree: &Tree, place: usize) -> Result<Option<usize>, NoMemory>
 /// Begins the name at a place.
 fn var_begun(
     machine: &mut Machine,
-    alloc: Global,
     tree: &Tree,
     kind: Declaration,
     place: usize,
@@ -156,7 +143,7 @@ fn var_begun(
     ensures { IfOk result (λ y. VarBegins (laid tree.now) kind place (standing machine.old) (standing machine.new) y) }
 {
     match value_place(tree, place)? {
-        None => var_left(machine, alloc, tree, kind, place),
+        None => var_left(machine, tree, kind, place),
         Some(value) => pushed(machine, Frame::Var(kind, place, value), value),
     }
 }
@@ -164,7 +151,6 @@ fn var_begun(
 /// Declares the names behind a place.
 pub fn declared(
     machine: &mut Machine,
-    alloc: Global,
     tree: &Tree,
     kind: Declaration,
     part: usize,
@@ -178,7 +164,7 @@ pub fn declared(
         return Err(NoMemory);
     };
     if is_var_node(node) {
-        var_begun(machine, alloc, tree, kind, place)
+        var_begun(machine, tree, kind, place)
     } else {
         Err(NoMemory)
     }
@@ -291,11 +277,13 @@ fn for_declared(
 ) -> Result<Next, NoMemory>
     ensures { IfOk result (λ y. ForDeclares (laid tree.now) kind at mark (standing machine.old) (standing machine.new) y) }
 {
-    let names = first_names(alloc, tree, is_var(kind), mark)?;
+    let room = machine.frames.take_names(alloc);
+    let names = first_names(tree, is_var(kind), mark, room)?;
+    machine.locals.push(Local::Scope)?;
+    let room = declare(&mut machine.locals, false, names)?;
+    machine.frames.keep_names(room);
     machine.frames.push(Frame::Scope)?;
     machine.frames.push(Frame::ForStart(at))?;
-    machine.locals.push(Local::Scope)?;
-    declare(&mut machine.locals, false, names)?;
     Ok(Next::Vars(kind, mark))
 }
 
@@ -336,10 +324,12 @@ fn for_begun(
 fn opened(machine: &mut Machine, alloc: Global, tree: &Tree, mark: usize) -> Result<Next, NoMemory>
     ensures { IfOk result (λ y. Opens (laid tree.now) mark (standing machine.old) (standing machine.new) y) }
 {
-    let names = let_names(alloc, tree, row_behind(tree, mark))?;
-    machine.frames.push(Frame::Scope)?;
+    let room = machine.frames.take_names(alloc);
+    let names = let_names(tree, row_behind(tree, mark), room)?;
     machine.locals.push(Local::Scope)?;
-    declare(&mut machine.locals, false, names)?;
+    let room = declare(&mut machine.locals, false, names)?;
+    machine.frames.keep_names(room);
+    machine.frames.push(Frame::Scope)?;
     Ok(Next::Rest(mark))
 }
 
@@ -543,7 +533,6 @@ fn looked_at(
 /// Goes on with the value that a statement awaits.
 pub fn taken(
     machine: &mut Machine,
-    alloc: Global,
     tree: &Tree,
     frame: Frame,
     value: Value,
@@ -553,7 +542,7 @@ pub fn taken(
     match frame {
         Frame::Returned => Ok(Next::Give(value)),
         Frame::Var(kind, place, part) => {
-            let next = var_set(machine, alloc, tree, kind, place, part, value)?;
+            let next = var_set(machine, tree, kind, place, part, value)?;
             Ok(next)
         }
         other => {

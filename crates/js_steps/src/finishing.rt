@@ -64,6 +64,46 @@ fn part_given<V: View>(
     }
 }
 
+/// Calls what is called with all arguments, where it is no body.
+fn called<V: View>(
+    machine: &mut Machine,
+    alloc: Global,
+    tree: &Tree,
+    view: &V,
+    callee: Callee,
+    at: usize,
+    arguments: &[Value],
+) -> Result<Next, NoMemory>
+    ensures { IfOk result (λ y. Finishes (record { names = V.names view.now; view = V.seen view.now }) (laid tree.now) (Purpose.Call callee at) arguments.now (standing machine.old) (standing machine.new) y) }
+{
+    match callee {
+        Callee::Body(_, _) => Err(NoMemory),
+        Callee::Signal(_, _) | Callee::Doing(_, _) | Callee::Log | Callee::Nothing => {
+            Ok(threw(Cause::Call))
+        }
+        Callee::Binding => Ok(threw(Cause::Kind)),
+        Callee::Reading(_, cell, place) => {
+            let name = name_of(tree, place)?;
+            let absent = Value::Undefined;
+            let first = first_of(arguments, &absent);
+            part_given(machine, alloc, view, To::Step(at), name, cell, first)
+        }
+        Callee::Method(value, place) => {
+            let name = name_of(tree, place)?;
+            let ended = method(alloc, &value, name, arguments)?;
+            Ok(arrive_ended(To::Step(at), ended))
+        }
+        Callee::Math(place) => {
+            let name = name_of(tree, place)?;
+            Ok(arrive_ended(To::Step(at), math(name, arguments)))
+        }
+        Callee::Text => {
+            let ended = text_from(alloc, arguments)?;
+            Ok(arrive_ended(To::Step(at), ended))
+        }
+    }
+}
+
 /// Calls what is called with all arguments.
 fn call_finished<V: View>(
     machine: &mut Machine,
@@ -78,28 +118,10 @@ fn call_finished<V: View>(
 {
     match callee {
         Callee::Body(body, object) => Ok(Next::Enter(body, object, arguments, at)),
-        Callee::Signal(_, _) | Callee::Doing(_, _) | Callee::Log | Callee::Nothing => {
-            Ok(threw(Cause::Call))
-        }
-        Callee::Binding => Ok(threw(Cause::Kind)),
-        Callee::Reading(_, cell, place) => {
-            let name = name_of(tree, place)?;
-            let absent = Value::Undefined;
-            let first = first_of(arguments.values(), &absent);
-            part_given(machine, alloc, view, To::Step(at), name, cell, first)
-        }
-        Callee::Method(value, place) => {
-            let name = name_of(tree, place)?;
-            let ended = method(alloc, &value, name, arguments.values())?;
-            Ok(arrive_ended(To::Step(at), ended))
-        }
-        Callee::Math(place) => {
-            let name = name_of(tree, place)?;
-            Ok(arrive_ended(To::Step(at), math(name, arguments.values())))
-        }
-        Callee::Text => {
-            let ended = text_from(alloc, arguments.values())?;
-            Ok(arrive_ended(To::Step(at), ended))
+        other => {
+            let next = called(machine, alloc, tree, view, other, at, arguments.values())?;
+            machine.frames.keep_arguments(arguments);
+            Ok(next)
         }
     }
 }
@@ -188,7 +210,7 @@ fn rounded_first(
         return Err(NoMemory);
     };
     machine.left -= 1;
-    let values = Args::of_vec(Vec::new(alloc));
+    let values = machine.frames.take_arguments(alloc);
     machine
         .frames
         .push(Frame::All(Purpose::Call(callee, at), values, part))?;
@@ -223,7 +245,7 @@ fn first_argument(
             if chain {
                 rounded_first(machine, alloc, tree, rounding, callee, at, part)
             } else {
-                let values = Args::of_vec(Vec::new(alloc));
+                let values = machine.frames.take_arguments(alloc);
                 pushed(
                     machine,
                     Frame::All(Purpose::Call(callee, at), values, part),
@@ -232,7 +254,7 @@ fn first_argument(
             }
         }
         None => {
-            let values = Args::of_vec(Vec::new(alloc));
+            let values = machine.frames.take_arguments(alloc);
             pushed(
                 machine,
                 Frame::All(Purpose::Call(callee, at), values, part),
@@ -259,7 +281,7 @@ pub fn arguments<V: View>(
     };
     match next_part(tree, mark) {
         None => {
-            let none = Args::of_vec(Vec::new(alloc));
+            let none = machine.frames.take_arguments(alloc);
             call_finished(machine, alloc, tree, view, callee, at, none)
         }
         Some(part) => {

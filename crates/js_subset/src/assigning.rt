@@ -388,7 +388,7 @@ fn spot_written(
             let name = name_of(tree, *place)?;
             let value = copied(alloc, value)?;
             let back = copied(alloc, back)?;
-            writes(machine, alloc, tree, name, value, Next::Back(back))
+            writes(machine, tree, name, value, Next::Back(back))
         }
         Spot::Named(_, _) => Ok(threw(Cause::Call)),
         Spot::Member(_, _) => Ok(threw(Cause::Call)),

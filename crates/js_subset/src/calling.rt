@@ -9,7 +9,7 @@ ghost use Rattle.js_locals.specs.Gathering.{row_from};
 ghost use Rattle.js_frames.specs.Stepping.{BodyBegun, Enters, Returns};
 
 use evaluation::Args;
-use js_frames::{Before, Code, Frame, Here, Machine, Next};
+use js_frames::{Before, Code, Frame, Here, Machine, Next, Stack};
 use js_locals::{Local, Locals, bind, declare, let_names, row_behind, var_names};
 use js_looking::threw;
 use qml_base::{Cause, ExprNo, Home, ObjNo};
@@ -19,38 +19,28 @@ use qml_value::Value;
 use std::alloc::Global;
 use std::mem;
 
-/// The locals of a call: names of its own scope over parameters and `var`s.
-fn laid_locals(
-    alloc: Global,
-    vars: Vec<usize>,
-    lets: Vec<usize>,
-    names: &[usize],
-    values: &[Value],
-) -> Result<Locals, NoMemory>
-    ensures { IfOk result (λ ls. ls ≡ fresh_onto false lets.items (Local.Scope ∷ parameters_onto names.now values.now (fresh_onto true vars.items (Local.Scope ∷ [])))) }
-{
-    let mut locals = Locals::new(alloc);
-    locals.push(Local::Scope)?;
-    declare(&mut locals, true, vars)?;
-    bind(&mut locals, alloc, names, values)?;
-    locals.push(Local::Scope)?;
-    declare(&mut locals, false, lets)?;
-    Ok(locals)
-}
-
-/// The locals with which statements begin, from the first on: their own `let`s over parameters and `var`s.
+/// The locals with which statements begin, from the first on: their own `let`s over parameters and `var`s. They stand in
+/// room that is kept beside the frames.
 pub(crate) fn body_locals(
+    frames: &mut Stack,
     alloc: Global,
     tree: &Tree,
     names: &[usize],
     values: &[Value],
     first: Option<usize>,
 ) -> Result<Locals, NoMemory>
-    ensures { IfOk result (λ ls. scopes_of (laid tree.now) ls ≡ lets_of (stmts_in (row_from (laid tree.now) first)) ∷ parameters (map (name_of (laid tree.now)) names.now) values.now (vars_of_all (stmts_in (row_from (laid tree.now) first)) []) ∷ []) }
+    ensures scopes { IfOk result (λ ls. scopes_of (laid tree.now) ls ≡ lets_of (stmts_in (row_from (laid tree.now) first)) ∷ parameters (map (name_of (laid tree.now)) names.now) values.now (vars_of_all (stmts_in (row_from (laid tree.now) first)) []) ∷ []) }
+    ensures frames { frames.new ≡ frames.old }
 {
-    let vars = var_names(alloc, tree, first)?;
-    let lets = let_names(alloc, tree, first)?;
-    let locals = laid_locals(alloc, vars, lets, names, values)?;
+    let mut locals = frames.take_locals(alloc);
+    let vars = var_names(tree, first, frames.take_names(alloc))?;
+    locals.push(Local::Scope)?;
+    let room = declare(&mut locals, true, vars)?;
+    bind(&mut locals, alloc, names, values)?;
+    locals.push(Local::Scope)?;
+    let lets = let_names(tree, first, room)?;
+    let room = declare(&mut locals, false, lets)?;
+    frames.keep_names(room);
     Ok(locals)
 }
 
@@ -105,7 +95,16 @@ pub(crate) fn entered<C: Code>(
         return Err(NoMemory);
     };
     let first = row_behind(tree, mark);
-    let locals = body_locals(alloc, tree, code.parameters(body), values.values(), first)?;
+    let names = code.parameters(body);
+    let locals = body_locals(
+        &mut machine.frames,
+        alloc,
+        tree,
+        names,
+        values.values(),
+        first,
+    )?;
+    machine.frames.keep_arguments(values);
     begin_body(machine, here, calls, locals, body, object, at)?;
     Ok(Next::Rest(mark))
 }
@@ -122,6 +121,7 @@ pub(crate) fn returned(
     ensures { Returns here.new (standing machine.old) (standing machine.new) caller locals at value result }
 {
     *here = caller;
-    machine.locals = locals;
+    let over = mem::replace(&mut machine.locals, locals);
+    machine.frames.keep_locals(over);
     Next::Step(Before::Value(value), at)
 }

@@ -36,7 +36,7 @@ fn cleared(frames: Stack) -> Stack
     frames
 }
 
-/// Goes on from what a text begins with to its end. The room of the frames is given back.
+/// Goes on from what a text begins with to its end. The room of the frames and of the locals is given back.
 #[tactic(auto, using(js_frames::proofs::EndLemmas::ends_as, js_frames::proofs::EndLemmas::no_answer))]
 fn run_to_end<V: View, C: Code>(
     alloc: Global,
@@ -61,6 +61,7 @@ fn run_to_end<V: View, C: Code>(
     let ended = run_from(&mut machine, alloc, view, code, &mut here, first);
     *reads = machine.reads;
     *frames = machine.frames;
+    frames.keep_locals(machine.locals);
     match ended {
         Ok(next) => outcome(next),
         Err(_) => Evaluated::NoMemory,
@@ -87,7 +88,7 @@ fn eval_over<V: View, C: Code, L: Ledger>(
     let Some(tree) = code.tree(text) else {
         return Evaluated::NoMemory;
     };
-    let Ok(begun) = start(alloc, tree, code.place(text)) else {
+    let Ok(begun) = start(frames, alloc, tree, code.place(text)) else {
         return Evaluated::NoMemory;
     };
     let (locals, first) = begun;
@@ -124,7 +125,8 @@ pub fn eval<V: View, C: Code, L: Ledger>(
     }
 }
 
-/// The evaluation of the texts of units. It keeps the room of its frames from one text to the next.
+/// The evaluation of the texts of units. It keeps the room of its frames, and what calls and
+/// blocks needed, from one text to the next.
 #[derive(Drop)]
 pub struct UnitRules<'a, C> {
     code: &'a C,

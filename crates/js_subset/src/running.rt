@@ -47,7 +47,7 @@ fn back_to<V: View>(
         let next = assigned(machine, alloc, tree, frame, value)?;
         Ok(next)
     } else if is_of_statement(&frame) {
-        let next = taken(machine, alloc, tree, frame, value)?;
+        let next = taken(machine, tree, frame, value)?;
         Ok(next)
     } else {
         let next = resumed(machine, alloc, tree, view, frame, value)?;
@@ -160,7 +160,7 @@ fn moved_within<V: View>(
             Ok(next)
         }
         Next::Vars(kind, part) => {
-            let next = declared(machine, alloc, tree, kind, part)?;
+            let next = declared(machine, tree, kind, part)?;
             Ok(next)
         }
         Next::Enter(_, _, _, _) | Next::Done | Next::Give(_) => Err(NoMemory),

@@ -10,7 +10,7 @@ ghost use Rattle.js_frames.specs.Stepping.{Starts, StartsIf, kind_of};
 
 use crate::calling::body_locals;
 use evaluation::Evaluated;
-use js_frames::{Kind, Next};
+use js_frames::{Kind, Next, Stack};
 use js_locals::{Locals, first_part, is_expression, next_part, node_at, row_behind};
 use qml_syntax::{Node, Tree};
 use qml_text::NoMemory;
@@ -48,53 +48,71 @@ pub(crate) fn begins_at(tree: &Tree, at: usize) -> Option<usize>
 
 /// Begins the body whose node stands at a place.
 #[tactic(auto, using(js_frames::proofs::StartLemmas::body_starts))]
-fn start_body(alloc: Global, tree: &Tree, at: usize) -> Result<(Locals, Next), NoMemory>
-    ensures { IfOk result (λ r. StartsIf (laid tree.now) Kind.Body at r.0 r.1) }
+fn start_body(
+    frames: &mut Stack,
+    alloc: Global,
+    tree: &Tree,
+    at: usize,
+) -> Result<(Locals, Next), NoMemory>
+    ensures frames { frames.new ≡ frames.old }
+    ensures starts { IfOk result (λ r. StartsIf (laid tree.now) Kind.Body at r.0 r.1) }
 {
     let Some(mark) = first_part(tree, at) else {
         return Err(NoMemory);
     };
-    let locals = body_locals(alloc, tree, &[], &[], row_behind(tree, mark))?;
+    let locals = body_locals(frames, alloc, tree, &[], &[], row_behind(tree, mark))?;
     Ok((locals, Next::Rest(mark)))
 }
 
 /// Begins the statement whose node stands at a place.
 #[tactic(auto, using(js_frames::proofs::StartLemmas::other_starts))]
-fn start_other(alloc: Global, tree: &Tree, at: usize) -> Result<(Locals, Next), NoMemory>
-    ensures { IfOk result (λ r. StartsIf (laid tree.now) Kind.Other at r.0 r.1) }
+fn start_other(
+    frames: &mut Stack,
+    alloc: Global,
+    tree: &Tree,
+    at: usize,
+) -> Result<(Locals, Next), NoMemory>
+    ensures frames { frames.new ≡ frames.old }
+    ensures starts { IfOk result (λ r. StartsIf (laid tree.now) Kind.Other at r.0 r.1) }
 {
     let None = next_part(tree, at) else {
         return Err(NoMemory);
     };
-    let locals = body_locals(alloc, tree, &[], &[], Some(at))?;
+    let locals = body_locals(frames, alloc, tree, &[], &[], Some(at))?;
     Ok((locals, Next::Run(at)))
 }
 
 /// Begins the text whose node stands at a place, with the locals that it has.
 #[tactic(auto, using(js_frames::proofs::StartLemmas::expression_starts, js_frames::proofs::StartLemmas::statement_starts, js_frames::proofs::StartLemmas::file_starts, js_frames::proofs::StartLemmas::starts_as))]
-pub(crate) fn start(alloc: Global, tree: &Tree, at: usize) -> Result<(Locals, Next), NoMemory>
-    ensures { IfOk result (λ r. Starts (laid tree.now) at r.0 r.1) }
+pub(crate) fn start(
+    frames: &mut Stack,
+    alloc: Global,
+    tree: &Tree,
+    at: usize,
+) -> Result<(Locals, Next), NoMemory>
+    ensures frames { frames.new ≡ frames.old }
+    ensures starts { IfOk result (λ r. Starts (laid tree.now) at r.0 r.1) }
 {
     let Some(node) = node_at(tree, at) else {
         return Err(NoMemory);
     };
     match kind_of(node) {
-        Kind::Expression => Ok((Locals::new(alloc), Next::Begin(at))),
+        Kind::Expression => Ok((frames.take_locals(alloc), Next::Begin(at))),
         Kind::Statement => match first_part(tree, at) {
-            Some(inside) => Ok((Locals::new(alloc), Next::Begin(inside))),
+            Some(inside) => Ok((frames.take_locals(alloc), Next::Begin(inside))),
             None => Err(NoMemory),
         },
         Kind::Other => {
-            let begun = start_other(alloc, tree, at)?;
+            let begun = start_other(frames, alloc, tree, at)?;
             Ok(begun)
         }
         Kind::Body => {
-            let begun = start_body(alloc, tree, at)?;
+            let begun = start_body(frames, alloc, tree, at)?;
             Ok(begun)
         }
         Kind::File => {
             let ended = Next::Ended(Evaluated::Value(Value::Undefined));
-            Ok((Locals::new(alloc), ended))
+            Ok((frames.take_locals(alloc), ended))
         }
     }
 }

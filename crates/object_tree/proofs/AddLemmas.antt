@@ -39,6 +39,11 @@ pub below : (m n : ℕ) (xs : List Object) (p : Option ObjNo) → MayOwn xs p �
 below m n xs None may all h = tt
 below m n xs (Some p) may all h = let low = found_up_to m xs p may.0 all in omega arith
 
+-- an object of the next number keeps the order
+pub ordered_by_next : (given : ℕ) (xs : List Object) (x : Object) → IsOrdered 0 xs → AllUpTo given xs → x.number.0 ≡ given + 1 → MayOwn xs x.owner → MayOwn xs x.origin → IsOrdered 0 (xs ++ x ∷ [])
+ordered_by_next given xs x ordered all next owner origin =
+    ordered_push 0 given xs x ordered all (omega arith) (omega arith) (below given x.number.0 xs x.owner owner all (omega arith)) (below given x.number.0 xs x.origin origin all (omega arith))
+
 pub index_left : (xs ys : List ℕ) (i : ℕ) → i < length xs → slice_index (xs ++ ys) i ≡ slice_index xs i
 index_left [] ys i h = absurd (omega arith)
 index_left (x ∷ xs) ys zero h = refl

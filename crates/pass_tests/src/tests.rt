@@ -3,6 +3,7 @@
 use document_faults::first_of_program;
 use document_tables::{ProgramTables, tables_of_program};
 use name_faults::first_of_names;
+use program_meanings::program_meanings;
 use program_names::Fault;
 use program_passes::{Passed, two_passes};
 use program_paths::program_paths;
@@ -60,7 +61,10 @@ fn first_told(alloc: Global, main: &[u8], beside: &[u8]) -> Result<Option<(usize
     let mut known = KnownFiles::new(alloc);
     let tables = tables(alloc, &mut known, &mut files)?;
     match program_paths(alloc, &tables.names, &tables.documents)? {
-        Some(paths) => Ok(first_of_program(alloc, &tables, &paths)?),
+        Some(paths) => {
+            let meanings = program_meanings(alloc, &tables, &paths)?;
+            Ok(first_of_program(alloc, &tables, &paths, &meanings)?)
+        }
         None => Err(Fail::from("undecided")),
     }
 }
@@ -132,6 +136,41 @@ fn an_alias_of_nothing_is_told(rt: HostRuntime) -> Result<(), Fail> {
             column: 60,
         },
         cause: LoadCause::BadAlias,
+    };
+    assert!(rt; found == Some((0, told)));
+    Ok(())
+}
+
+#[test]
+fn a_value_for_nothing_is_told(rt: HostRuntime) -> Result<(), Fail> {
+    let alloc = rt.alloc();
+    let main = b"import QtQuick\nItem { id: a; A { size: 1; onSize: { } onGo: { } a.none: 2 } }";
+    let beside = b"import QtQuick\nItem { property int size; signal size(); signal go }";
+    let found = first_told(alloc, main, beside)?;
+    let told = Fault {
+        at: Place {
+            line: 2,
+            column: 50,
+        },
+        cause: LoadCause::UnknownProperty,
+    };
+    assert!(rt; found == Some((0, told)));
+    Ok(())
+}
+
+#[test]
+fn a_change_of_a_readonly_property_is_told(rt: HostRuntime) -> Result<(), Fail> {
+    let alloc = rt.alloc();
+    let main = b"import QtQuick\nItem { id: a; readonly property int s: 1; property int t
+State { PropertyChanges { target: a; t: 1 } PropertyChanges { target: a; s: 2 } } }";
+    let beside = b"import QtQuick\nItem { }";
+    let found = first_told(alloc, main, beside)?;
+    let told = Fault {
+        at: Place {
+            line: 3,
+            column: 74,
+        },
+        cause: LoadCause::ReadOnly,
     };
     assert!(rt; found == Some((0, told)));
     Ok(())

@@ -1,3 +1,4 @@
+pub mod Growing
 pub mod Parts
 pub mod Store
 pub mod Utf

@@ -48,8 +48,10 @@ fn grows(rt: HostRuntime) -> Result<(), Fail> {
     longer.push_char('1')?;
     longer.append(&text(alloc, b"2")?)?;
     assert_eq!(rt; longer.len(), 23);
+    longer.append(&number)?;
+    longer.push_unit(0x33)?;
     let longer = longer.finish(alloc)?;
-    assert!(rt; longer.same(&text(alloc, b"-9223372036854775808012")?));
+    assert!(rt; longer.same(&text(alloc, b"-9223372036854775808012-92233720368547758083")?));
     Ok(())
 }
 

@@ -5,6 +5,7 @@ ghost use Rattle.std.specs.Fmt.{signed_decimal};
 
 use crate::fault::NoMemory;
 use crate::store::Units;
+use itoa::Buffer;
 use std::alloc::Global;
 use std::marker::Model;
 
@@ -111,7 +112,7 @@ impl Text {
     pub fn of_number(alloc: Global, n: i64) -> Result<Text, NoMemory>
         ensures { IfOk result (λ t. t ≡ signed_decimal n) }
     {
-        let written = n.to_string(alloc)?;
-        Text::from_latin1(alloc, written.as_bytes())
+        let mut digits = Buffer::new();
+        Text::from_latin1(alloc, digits.format(n).as_bytes())
     }
 }

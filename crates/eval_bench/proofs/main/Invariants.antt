@@ -2,3 +2,6 @@ use Rattle.eval_bench.proofs.main.Given as goal
 
 abbrev pub ghosts-measure : goal.ghosts-measure
 ghosts-measure a = record { name = a.blank.name; parts = a.blank.parts }
+
+abbrev pub ghosts-repeat : goal.ghosts-repeat
+ghosts-repeat a = record { name = a.blank.name; parts = a.blank.parts }

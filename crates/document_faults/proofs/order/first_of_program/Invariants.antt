@@ -3,6 +3,7 @@ use Rattle.program_names.specs.Loaded.{Program}
 use Rattle.document_tables.specs.Tables.{TellProgram}
 use Rattle.name_faults.specs.Names.{first_found}
 use Rattle.program_paths.specs.Paths.{ArePaths}
+use Rattle.program_meanings.specs.Made.{AreMeanings}
 use Rattle.document_faults.specs.Told.{first_in_document}
 use Rattle.document_faults.proofs.order.first_of_program.Given as goal
 
@@ -10,4 +11,5 @@ use Rattle.document_faults.proofs.order.first_of_program.Given as goal
 abbrev pub invariant-documents : goal.invariant-documents
 invariant-documents l =
     (p : Program) → TellProgram p l.tables → ArePaths l.tables.names.units.items l.tables.documents.items (Some l.paths) →
+    AreMeanings l.tables.names.units.items l.tables.documents.items l.paths.ids.items l.meanings →
     first_found (first_in_document p) l.document (length p - l.document) ≡ first_found (first_in_document p) 0 (length p)

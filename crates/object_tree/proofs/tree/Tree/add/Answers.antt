@@ -5,7 +5,7 @@ use Rattle.object_tree.specs.declared.links.Tie.TheVariants as by_tie
 use Rattle.object_tree.specs.Links.{IsTied}
 use Rattle.object_tree.proofs.LinkLemmas.{linked_push}
 use Rattle.object_tree.proofs.WholeLemmas.{whole_push}
-use Rattle.object_tree.proofs.AddLemmas.{doomed_push, up_to_push, ordered_push, below, at_push}
+use Rattle.object_tree.proofs.AddLemmas.{doomed_push, up_to_push, ordered_by_next, at_push}
 use Rattle.object_tree.proofs.tree.Tree.add.Goals as goal
 
 pub invariant_of-self-2 : goal.invariant_of-self-2
@@ -20,8 +20,6 @@ invariant_of-self-2 c =
     let places : c.push.new.self.items ≡ old.places.items ++ length old.objects.items ∷ [] = c.in_ok-push.ensures.items ∙ ap (λ k. old.places.items ++ k ∷ []) (live ∙ old.objects.ok.0) in
     let doomed : c.reserve.new.self.items ≡ old.doomed.items = c.reserve.ensures.items in
     let more : vec_len c.push.new.self ≡ vec_len old.places + 1 = c.in_ok-push.ensures.len in
-    let owner = below (vec_len old.places) number old.objects.items c.args.owner (subst (λ t. MayOwn t.objects c.args.owner) (sym c.self.view_is) c.requires.owner) inv.4 (omega arith) in
-    let origin = below (vec_len old.places) number old.objects.items c.args.origin (subst (λ t. MayOwn t.objects c.args.origin) (sym c.self.view_is) c.requires.origin) inv.4 (omega arith) in
     let same_len : vec_len old.places ≡ length old.places.items = old.places.ok.0 in
     let up_to = inv.4 in
     let room = c.in_ok-reserve.ensures.ok in
@@ -34,7 +32,7 @@ invariant_of-self-2 c =
       rw (doomed, objects, doomed_push old.objects.items x refl) inv.0,
       omega arith,
       rw (objects, places) (at_push old.places.items old.objects.items x inv.2 (rw (← same_len) inv.4) inv.3 (omega arith)),
-      rw objects (ordered_push 0 (vec_len old.places) old.objects.items x inv.3 inv.4 (omega arith) (omega arith) owner origin),
+      rw objects (ordered_by_next (vec_len old.places) old.objects.items x inv.3 inv.4 (ap (λ k. k + 1) given) (subst (λ t. MayOwn t.objects c.args.owner) (sym c.self.view_is) c.requires.owner) (subst (λ t. MayOwn t.objects c.args.origin) (sym c.self.view_is) c.requires.origin)),
       rw objects (up_to_push (vec_len old.places) (vec_len c.push.new.self) old.objects.items x inv.4 (omega arith) (omega arith)),
       omega arith,
       omega arith,
@@ -66,9 +64,7 @@ add-requires-clause-ordered c =
     let x : Object = record { number = record { 0 = number }; owner = c.args.owner; origin = c.args.origin; condemned = false } in
     let objects : c.push-2.new.self.items ≡ old.objects.items ++ x ∷ [] = c.in_ok-push-2.ensures.items ∙ ap (λ l. l ++ x ∷ []) c.reserve-2.ensures.items in
     let same_len : vec_len old.places ≡ length old.places.items = old.places.ok.0 in
-    let owner = below (vec_len old.places) number old.objects.items c.args.owner (subst (λ t. MayOwn t.objects c.args.owner) (sym c.self.view_is) c.requires.owner) inv.4 (omega arith) in
-    let origin = below (vec_len old.places) number old.objects.items c.args.origin (subst (λ t. MayOwn t.objects c.args.origin) (sym c.self.view_is) c.requires.origin) inv.4 (omega arith) in
-    let ordered = ordered_push 0 (vec_len old.places) old.objects.items x inv.3 inv.4 (omega arith) (omega arith) owner origin in
+    let ordered = ordered_by_next (vec_len old.places) old.objects.items x inv.3 inv.4 (ap (λ k. k + 1) given) (subst (λ t. MayOwn t.objects c.args.owner) (sym c.self.view_is) c.requires.owner) (subst (λ t. MayOwn t.objects c.args.origin) (sym c.self.view_is) c.requires.origin) in
     rw (c.as_slice-objects.ensures.value, objects) ordered
 
 pub add-requires-clause-linked : goal.add-requires-clause-linked
@@ -81,9 +77,7 @@ add-requires-clause-linked c =
     let x : Object = record { number = record { 0 = number }; owner = c.args.owner; origin = c.args.origin; condemned = false } in
     let objects : c.push-2.new.self.items ≡ old.objects.items ++ x ∷ [] = c.in_ok-push-2.ensures.items ∙ ap (λ l. l ++ x ∷ []) c.reserve-2.ensures.items in
     let same_len : vec_len old.places ≡ length old.places.items = old.places.ok.0 in
-    let owner = below (vec_len old.places) number old.objects.items c.args.owner (subst (λ t. MayOwn t.objects c.args.owner) (sym c.self.view_is) c.requires.owner) inv.4 (omega arith) in
-    let origin = below (vec_len old.places) number old.objects.items c.args.origin (subst (λ t. MayOwn t.objects c.args.origin) (sym c.self.view_is) c.requires.origin) inv.4 (omega arith) in
-    let ordered = ordered_push 0 (vec_len old.places) old.objects.items x inv.3 inv.4 (omega arith) (omega arith) owner origin in
+    let ordered = ordered_by_next (vec_len old.places) old.objects.items x inv.3 inv.4 (ap (λ k. k + 1) given) (subst (λ t. MayOwn t.objects c.args.owner) (sym c.self.view_is) c.requires.owner) (subst (λ t. MayOwn t.objects c.args.origin) (sym c.self.view_is) c.requires.origin) in
     rw (c.as_slice-objects.ensures.value, objects, c.reserve-3.ensures.last, c.reserve-3.ensures.before, live, old.objects.ok.0) (linked_push by_tie.Owned old.objects.items x old.owned.last.items old.owned.before.items ordered inv.7)
 
 pub add-requires-2-clause-placed : goal.add-requires-2-clause-placed
@@ -109,9 +103,7 @@ add-requires-2-clause-ordered c =
     let x : Object = record { number = record { 0 = number }; owner = c.args.owner; origin = c.args.origin; condemned = false } in
     let objects : c.push-2.new.self.items ≡ old.objects.items ++ x ∷ [] = c.in_ok-push-2.ensures.items ∙ ap (λ l. l ++ x ∷ []) c.reserve-2.ensures.items in
     let same_len : vec_len old.places ≡ length old.places.items = old.places.ok.0 in
-    let owner = below (vec_len old.places) number old.objects.items c.args.owner (subst (λ t. MayOwn t.objects c.args.owner) (sym c.self.view_is) c.requires.owner) inv.4 (omega arith) in
-    let origin = below (vec_len old.places) number old.objects.items c.args.origin (subst (λ t. MayOwn t.objects c.args.origin) (sym c.self.view_is) c.requires.origin) inv.4 (omega arith) in
-    let ordered = ordered_push 0 (vec_len old.places) old.objects.items x inv.3 inv.4 (omega arith) (omega arith) owner origin in
+    let ordered = ordered_by_next (vec_len old.places) old.objects.items x inv.3 inv.4 (ap (λ k. k + 1) given) (subst (λ t. MayOwn t.objects c.args.owner) (sym c.self.view_is) c.requires.owner) (subst (λ t. MayOwn t.objects c.args.origin) (sym c.self.view_is) c.requires.origin) in
     rw (c.as_slice-objects.ensures.value, objects) ordered
 
 pub add-requires-2-clause-linked : goal.add-requires-2-clause-linked
@@ -124,7 +116,5 @@ add-requires-2-clause-linked c =
     let x : Object = record { number = record { 0 = number }; owner = c.args.owner; origin = c.args.origin; condemned = false } in
     let objects : c.push-2.new.self.items ≡ old.objects.items ++ x ∷ [] = c.in_ok-push-2.ensures.items ∙ ap (λ l. l ++ x ∷ []) c.reserve-2.ensures.items in
     let same_len : vec_len old.places ≡ length old.places.items = old.places.ok.0 in
-    let owner = below (vec_len old.places) number old.objects.items c.args.owner (subst (λ t. MayOwn t.objects c.args.owner) (sym c.self.view_is) c.requires.owner) inv.4 (omega arith) in
-    let origin = below (vec_len old.places) number old.objects.items c.args.origin (subst (λ t. MayOwn t.objects c.args.origin) (sym c.self.view_is) c.requires.origin) inv.4 (omega arith) in
-    let ordered = ordered_push 0 (vec_len old.places) old.objects.items x inv.3 inv.4 (omega arith) (omega arith) owner origin in
+    let ordered = ordered_by_next (vec_len old.places) old.objects.items x inv.3 inv.4 (ap (λ k. k + 1) given) (subst (λ t. MayOwn t.objects c.args.owner) (sym c.self.view_is) c.requires.owner) (subst (λ t. MayOwn t.objects c.args.origin) (sym c.self.view_is) c.requires.origin) in
     rw (c.as_slice-objects.ensures.value, objects, c.reserve-4.ensures.last, c.reserve-4.ensures.before, live, old.objects.ok.0) (linked_push by_tie.Made old.objects.items x old.made.last.items old.made.before.items ordered inv.8)

@@ -1,0 +1,9 @@
+pub mod ToldLemmas
+pub mod AroundLemmas
+pub mod NameLemmas
+pub mod StandingLemmas
+pub mod OwnLemmas
+pub mod ItemLemmas
+pub mod LeftLemmas
+pub mod WholeLemmas
+pub mod ParameterLemmas

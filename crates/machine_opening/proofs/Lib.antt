@@ -1,0 +1,2 @@
+pub mod UnitsLemmas
+pub mod OpeningLemmas

@@ -1,0 +1,3 @@
+pub mod AnyLemmas
+pub mod UnheardLemmas
+pub mod ReactionLemmas

@@ -1,0 +1,2 @@
+pub mod Unheard
+pub mod Keeping

@@ -1,0 +1,4 @@
+pub mod StatementLemmas
+pub mod NumberLemmas
+pub mod BodyLemmas
+pub mod ProgramLemmas

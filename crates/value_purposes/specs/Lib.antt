@@ -1,0 +1,4 @@
+pub mod Given
+pub mod Purposes
+pub mod Bare
+pub mod Tables
