@@ -35,7 +35,7 @@ use Rattle.qml_base.specs.declared.names.Home.{Home}
 use Rattle.evaluation.specs.Ask.{Ask}
 use Rattle.qml_types.specs.declared.kind.TypeRef.{TypeRef}
 use Rattle.qml_scope.specs.Shapes.{Known, ToldUpTo, TellsLast}
-use Rattle.live_tree.specs.Live.{Live, Knows, shown}
+use Rattle.live_tree.specs.Live.{Live, Knows, held_in, shown}
 
 -- a tree that evaluates all bindings at each settling knows everything
 pub knows_all : (asks : ExprNo → Home → Ask) (live : Live) → Knows asks live
@@ -159,6 +159,14 @@ quiet_length objects (x ∷ xs) = ap suc (quiet_length objects xs)
 pub shown_length : (stale : Bool) (objects : List Object) (cells : List Cell) → length (shown stale objects cells) ≡ length cells
 shown_length true objects cells = quiet_length objects cells
 shown_length false objects cells = refl
+
+quiet_held : (objects : List Object) (cells : List Cell) → held_in (map (quiet objects) cells) ≡ held_in cells
+quiet_held objects [] = refl
+quiet_held objects (x ∷ xs) = ap (λ rest. (x.no, x.held) ∷ rest) (quiet_held objects xs)
+
+pub shown_held : (stale : Bool) (objects : List Object) (cells : List Cell) → held_in (shown stale objects cells) ≡ held_in cells
+shown_held true objects cells = quiet_held objects cells
+shown_held false objects cells = refl
 
 -- what condemning doesn't change is the same in the cells that are kept
 module _ {X : Type 0} (field : Cell → X) (same : (objects : List Object) (cell : Cell) → field (quiet objects cell) ≡ field cell) where

@@ -36,6 +36,10 @@ pub record Live : Type 0 where
 abbrev pub shown : Bool → List Object → List Cell → List Cell
 shown stale objects cells = if stale then map (quiet objects) cells else cells
 
+-- the numbers of the cells, each with what the cell holds
+abbrev pub held_in : List Cell → List (CellNo × Value)
+held_in cells = map (λ cell. (cell.no, cell.held)) cells
+
 -- what texts ask for stands in the world of the tree's own names and types
 abbrev pub world_around : Live → (ExprNo → Home → Ask) → World
 world_around live asks = record { names = names_of live.known; types = types_among live.known.told; asks = asks }

@@ -20,13 +20,13 @@ pub data Deed : Type 0 where
   a_call : Place → ℕ → ℕ → Function → Deed
   misbinds : Place → Deed
 
-abbrev reading_methods : List Units
+abbrev pub reading_methods : List Units
 reading_methods =
     codes "charAt" ∷ codes "charCodeAt" ∷ codes "indexOf" ∷ codes "includes" ∷ codes "startsWith" ∷ codes "endsWith" ∷
     codes "slice" ∷ codes "substring" ∷ codes "split" ∷ codes "toString" ∷ codes "concat" ∷ codes "join" ∷
     codes "itemAt" ∷ codes "get" ∷ []
 
-abbrev math_methods : List Units
+abbrev pub math_methods : List Units
 math_methods = codes "floor" ∷ codes "ceil" ∷ codes "trunc" ∷ codes "abs" ∷ codes "min" ∷ codes "max" ∷ []
 
 -- what is called: a name, a member of a name, a member of another value, or another value
@@ -36,46 +36,46 @@ pub data Callee : Type 0 where
   called_member : Units → Place → Callee
   called_value : Callee
 
-abbrev callee_of : Expr → Callee
+abbrev pub callee_of : Expr → Callee
 callee_of (name n q) = called_name n q
 callee_of _ = called_value
 
-abbrev callee_behind : Callee → Step → Callee
+abbrev pub callee_behind : Callee → Step → Callee
 callee_behind (called_name n q) (member m r) = called_of_name n m r
 callee_behind _ (member m r) = called_member m r
 callee_behind _ _ = called_value
 
-abbrev reads : Units → Place → List Deed
+abbrev pub reads : Units → Place → List Deed
 reads m at = if is_in m reading_methods then [] else an_effect at ∷ []
 
-abbrev call_by_name : NameInCode → Units → Place → List Deed
+abbrev pub call_by_name : NameInCode → Units → Place → List Deed
 call_by_name (finds_function d o f) n at = a_call at d o f ∷ []
 call_by_name finds_global n at = if bytes_eq n (codes "String") then [] else an_effect at ∷ []
 call_by_name finds_method n at = reads n at
 call_by_name _ n at = an_effect at ∷ []
 
-abbrev call_of_member : Option NameInCode → Units → Place → List Deed
+abbrev pub call_of_member : Option NameInCode → Units → Place → List Deed
 call_of_member (Some (finds_function d o f)) m at = a_call at d o f ∷ []
 call_of_member _ m at = reads m at
 
-abbrev call_of_script : ℕ → Option Function → Units → Place → List Deed
+abbrev pub call_of_script : ℕ → Option Function → Units → Place → List Deed
 call_of_script u (Some f) m at = a_call at u 0 f ∷ []
 call_of_script u None m at = reads m at
 
-abbrev call_of_math : Units → Place → List Deed
+abbrev pub call_of_math : Units → Place → List Deed
 call_of_math m at = if is_in m math_methods then [] else an_effect at ∷ []
 
-abbrev call_of_global : Units → Units → Place → List Deed
+abbrev pub call_of_global : Units → Units → Place → List Deed
 call_of_global n m at = if bytes_eq n (codes "Math") then call_of_math m at else reads m at
 
-abbrev call_by_member : Standpoint → NameInCode → Units → Units → Place → List Deed
+abbrev pub call_by_member : Standpoint → NameInCode → Units → Units → Place → List Deed
 call_by_member h (finds_id o) n m at = call_of_member (member_found h.program h.document o m) m at
 call_by_member h (finds_script u) n m at = call_of_script u (function_in (unit_at h.program u).functions m) m at
 call_by_member h finds_global n m at = call_of_global n m at
 call_by_member h _ n m at = reads m at
 
 -- a call where there may be no effect; `bracket` is the place of its `(`
-abbrev call_of : Standpoint → Callee → Place → List Deed
+abbrev pub call_of : Standpoint → Callee → Place → List Deed
 call_of h (called_name n at) bracket =
     if is_in n h.locals then an_effect at ∷ [] else call_by_name (found_in_code h n) n at
 call_of h (called_of_name n m at) bracket =
@@ -83,72 +83,72 @@ call_of h (called_of_name n m at) bracket =
 call_of h (called_member m at) bracket = reads m at
 call_of h called_value bracket = an_effect bracket ∷ []
 
-abbrev if_pure : Standpoint → List Deed → List Deed
+abbrev pub if_pure : Standpoint → List Deed → List Deed
 if_pure h deeds = if h.pure then deeds else []
 
-abbrev is_local : Standpoint → Expr → Bool
+abbrev pub is_local : Standpoint → Expr → Bool
 is_local h (name n q) = is_in n h.locals
 is_local h _ = false
 
-abbrev writes : Standpoint → Expr → Place → List Deed
+abbrev pub writes : Standpoint → Expr → Place → List Deed
 writes h e at = if h.pure && not (is_local h e) then an_effect at ∷ [] else []
 
-abbrev bumps : Prefix → Bool
+abbrev pub bumps : Prefix → Bool
 bumps Increment = true
 bumps Decrement = true
 bumps _ = false
 
 -- the last of some signs
-abbrev last_sign : Prefix → Place → Signs → Prefix × Place
+abbrev pub last_sign : Prefix → Place → Signs → Prefix × Place
 last_sign g q no_signs = (g, q)
 last_sign g q (a_sign s r rest) = last_sign s r rest
 
-abbrev sign_writes : Standpoint → Expr → Prefix × Place → List Deed
+abbrev pub sign_writes : Standpoint → Expr → Prefix × Place → List Deed
 sign_writes h e s = if bumps s.0 then writes h e s.1 else []
 
-abbrev is_plain : Assignment → Bool
+abbrev pub is_plain : Assignment → Bool
 is_plain Plain = true
 is_plain _ = false
 
 -- whether the value of an assignment is assigned to a property by `=`
-abbrev is_right : Standpoint → Expr → Assignment → Targets → Bool
+abbrev pub is_right : Standpoint → Expr → Assignment → Targets → Bool
 is_right h t g no_targets = is_plain g && not (is_local h t)
 is_right h t g (a_target u k q rest) = is_right h u k rest
 
 -- a name that stands around the function of a `Qt.binding`
-abbrev name_deed : Standpoint → Units → Option Place → List Deed
+abbrev pub name_deed : Standpoint → Units → Option Place → List Deed
 name_deed h n None = []
 name_deed h n (Some at) = if not (is_in n h.locals) && is_in n h.around then misbinds at ∷ [] else []
 
-abbrev is_binding_member : Units → Bool
+abbrev pub is_binding_member : Units → Bool
 is_binding_member m = bytes_eq m (codes "binding")
 
-abbrev ends_call : Steps → Bool
+abbrev pub ends_call : Steps → Bool
 ends_call no_steps = true
 ends_call (a_step (call q es) no_steps) = true
 ends_call (a_step (binding q ss) no_steps) = true
 ends_call _ = false
 
 -- where a chain begins with `Qt.binding`: the place of `Qt`
-abbrev binding_at : Expr → Step → Option Place
+abbrev pub binding_at : Expr → Step → Option Place
 binding_at (name n q) (member m r) = if bytes_eq n (codes "Qt") && is_binding_member m then Some q else None
 binding_at _ _ = None
 
-abbrev misbinding : Bool → Option Place → List Deed
+abbrev pub misbinding : Bool → Option Place → List Deed
 misbinding fine None = []
 misbinding fine (Some at) = if fine then [] else misbinds at ∷ []
 
 -- ---- names of locals
 
-abbrev var_names : Vars → List Units
+abbrev pub var_names : Vars → List Units
 var_names (last_var n q i) = n ∷ []
 var_names (a_var n q i rest) = n ∷ var_names rest
 
-abbrev if_var : Bool → Declaration → List Units → List Units
+abbrev pub if_var : Bool → Declaration → List Units → List Units
 if_var wanted Var names = if wanted then names else []
 if_var wanted _ names = if wanted then [] else names
 
-abbrev first_names : First → List Units
+abbrev pub first_names : First → List Units
 first_names (first_declare q g vs) = if_var true g (var_names vs)
 first_names _ = []
 
@@ -172,7 +172,7 @@ abbrev mutual
   vars_in (a_stmt s ss) = vars_of s ++ vars_in ss
 
 -- the names that `let` and `const` declare in a block, those of a statement behind `if`, `else` or a loop's head too
-abbrev lets_of : Stmt → List Units
+abbrev pub lets_of : Stmt → List Units
 lets_of (declare q g vs c) = if_var false g (var_names vs)
 lets_of (when q e s) = lets_of s
 lets_of (either q e s r) = lets_of s ++ lets_of r
@@ -180,11 +180,11 @@ lets_of (while q e s) = lets_of s
 lets_of (for q i e f s) = lets_of s
 lets_of _ = []
 
-abbrev lets_in : Stmts → List Units
+abbrev pub lets_in : Stmts → List Units
 lets_in no_stmts = []
 lets_in (a_stmt s ss) = lets_of s ++ lets_in ss
 
-abbrev lets_of_first : First → List Units
+abbrev pub lets_of_first : First → List Units
 lets_of_first (first_declare q g vs) = if_var false g (var_names vs)
 lets_of_first _ = []
 
@@ -195,7 +195,7 @@ abbrev pub in_body : Standpoint → Stmts → Standpoint
 in_body h ss = within h (lets_in ss ++ vars_in ss)
 
 -- inside the function of a `Qt.binding`
-abbrev in_binding : Standpoint → Option Place → Stmts → Standpoint
+abbrev pub in_binding : Standpoint → Option Place → Stmts → Standpoint
 in_binding h at ss = record h {
   locals = lets_in ss ++ vars_in ss;
   around = h.locals ++ h.around;
