@@ -9,7 +9,7 @@ ghost use Rattle.code_deeds.specs.Scopes as s;
 use crate::around::Entry;
 use crate::form::{Form, StepForm};
 use crate::tasks::Task;
-use js_locals::{first_part, is_var, let_names, row_behind, var_names};
+use js_locals::{DeclaredNames, first_part, is_var, let_names, row_behind, var_names};
 use qml_base::{NoMemory, Place};
 use qml_syntax::{Node, Tree};
 use std::alloc::Global;
@@ -41,13 +41,13 @@ pub fn leave(entries: &mut Vec<Entry>)
 
 /// The names that the statements in a node declare by `let` and `const` for it.
 #[tactic(auto, using(crate::proofs::NameLemmas::lets_told))]
-pub fn lets_in(alloc: Global, tree: &Tree, at: usize) -> Result<Vec<usize>, NoMemory>
-    ensures { IfOk result (λ names. s.AreLets tree.now at names.items) }
+pub fn lets_in(alloc: Global, tree: &Tree, at: usize) -> Result<DeclaredNames, NoMemory>
+    ensures { IfOk result (λ names. s.AreLets tree.now at names) }
 {
     let Some(mark) = first_part(tree, at) else {
         return Err(NoMemory);
     };
-    match let_names(alloc, tree, row_behind(tree, mark)) {
+    match let_names(tree, row_behind(tree, mark), DeclaredNames::new(alloc)) {
         Ok(names) => Ok(names),
         Err(_) => Err(NoMemory),
     }
@@ -55,13 +55,13 @@ pub fn lets_in(alloc: Global, tree: &Tree, at: usize) -> Result<Vec<usize>, NoMe
 
 /// The names that the statements in a node declare by `var`, however deep.
 #[tactic(auto, using(crate::proofs::NameLemmas::vars_told))]
-pub fn vars_in(alloc: Global, tree: &Tree, at: usize) -> Result<Vec<usize>, NoMemory>
-    ensures { IfOk result (λ names. s.AreVars tree.now at names.items) }
+pub fn vars_in(alloc: Global, tree: &Tree, at: usize) -> Result<DeclaredNames, NoMemory>
+    ensures { IfOk result (λ names. s.AreVars tree.now at names) }
 {
     let Some(mark) = first_part(tree, at) else {
         return Err(NoMemory);
     };
-    match var_names(alloc, tree, row_behind(tree, mark)) {
+    match var_names(tree, row_behind(tree, mark), DeclaredNames::new(alloc)) {
         Ok(names) => Ok(names),
         Err(_) => Err(NoMemory),
     }
@@ -79,26 +79,24 @@ fn declares_lets(tree: &Tree, at: usize) -> bool
 
 /// The names with which a `for` begins whose beginning stands at a place, if it declares them by `let` or `const`.
 #[tactic(auto, using(crate::proofs::NameLemmas::firsts_told, crate::proofs::NameLemmas::no_firsts))]
-fn first_lets(alloc: Global, tree: &Tree, at: usize) -> Result<Vec<usize>, NoMemory>
-    ensures { IfOk result (λ names. s.AreFirstLets tree.now at names.items) }
+fn first_lets(alloc: Global, tree: &Tree, at: usize) -> Result<DeclaredNames, NoMemory>
+    ensures { IfOk result (λ names. s.AreFirstLets tree.now at names) }
 {
-    let mut none = Vec::new(alloc);
     if !declares_lets(tree, at) {
-        return Ok(none);
+        return Ok(DeclaredNames::new(alloc));
     }
-    none.clear();
     let Some(mark) = first_part(tree, at) else {
         return Err(NoMemory);
     };
-    match js_locals::first_names(alloc, tree, false, mark) {
+    match js_locals::first_names(tree, false, mark, DeclaredNames::new(alloc)) {
         Ok(names) => Ok(names),
         Err(_) => Err(NoMemory),
     }
 }
 
 /// The names with which the `for` at a place begins, if it declares them by `let` or `const`.
-fn for_lets(alloc: Global, tree: &Tree, at: usize) -> Result<Vec<usize>, NoMemory>
-    ensures { IfOk result (λ names. s.AreForLets tree.now at names.items) }
+fn for_lets(alloc: Global, tree: &Tree, at: usize) -> Result<DeclaredNames, NoMemory>
+    ensures { IfOk result (λ names. s.AreForLets tree.now at names) }
 {
     match tree.first(at) {
         Some(first) => first_lets(alloc, tree, first),
@@ -132,12 +130,12 @@ pub fn entered(
     match form {
         Form::Block => {
             let names = lets_in(alloc, tree, at)?;
-            enter(&names, entries, tasks)?;
+            enter(names.places(), entries, tasks)?;
             Ok(())
         }
         Form::For => {
             let names = for_lets(alloc, tree, at)?;
-            enter(&names, entries, tasks)?;
+            enter(names.places(), entries, tasks)?;
             Ok(())
         }
         Form::Name | Form::ChangesFirst(_) | Form::ChangesLast(_) => Ok(()),
@@ -156,8 +154,8 @@ pub fn push_body_names(
 {
     let vars = vars_in(alloc, tree, at)?;
     let lets = lets_in(alloc, tree, at)?;
-    push_names(&vars, entries)?;
-    push_names(&lets, entries)?;
+    push_names(vars.places(), entries)?;
+    push_names(lets.places(), entries)?;
     Ok(())
 }
 
@@ -222,10 +220,10 @@ fn push_parameter(tree: &Tree, at: usize, entries: &mut Vec<Entry>) -> Result<()
 
 /// The names that the statement at a place and those behind it declare by `let` and `const`.
 #[tactic(auto, using(crate::proofs::NameLemmas::single_lets))]
-fn lets_from(alloc: Global, tree: &Tree, at: usize) -> Result<Vec<usize>, NoMemory>
-    ensures { IfOk result (λ names. s.AreLetsFrom tree.now at names.items) }
+fn lets_from(alloc: Global, tree: &Tree, at: usize) -> Result<DeclaredNames, NoMemory>
+    ensures { IfOk result (λ names. s.AreLetsFrom tree.now at names) }
 {
-    match let_names(alloc, tree, Some(at)) {
+    match let_names(tree, Some(at), DeclaredNames::new(alloc)) {
         Ok(names) => Ok(names),
         Err(_) => Err(NoMemory),
     }
@@ -233,10 +231,10 @@ fn lets_from(alloc: Global, tree: &Tree, at: usize) -> Result<Vec<usize>, NoMemo
 
 /// Those that they declare by `var`, however deep.
 #[tactic(auto, using(crate::proofs::NameLemmas::single_vars))]
-fn vars_from(alloc: Global, tree: &Tree, at: usize) -> Result<Vec<usize>, NoMemory>
-    ensures { IfOk result (λ names. s.AreVarsFrom tree.now at names.items) }
+fn vars_from(alloc: Global, tree: &Tree, at: usize) -> Result<DeclaredNames, NoMemory>
+    ensures { IfOk result (λ names. s.AreVarsFrom tree.now at names) }
 {
-    match var_names(alloc, tree, Some(at)) {
+    match var_names(tree, Some(at), DeclaredNames::new(alloc)) {
         Ok(names) => Ok(names),
         Err(_) => Err(NoMemory),
     }
@@ -253,8 +251,8 @@ pub fn push_single_names(
 {
     let vars = vars_from(alloc, tree, at)?;
     let lets = lets_from(alloc, tree, at)?;
-    push_names(&vars, entries)?;
-    push_names(&lets, entries)?;
+    push_names(vars.places(), entries)?;
+    push_names(lets.places(), entries)?;
     Ok(())
 }
 

@@ -40,6 +40,13 @@ impl DeclaredNames {
         }
     }
 
+    /// The places, in the order in which the names were found.
+    pub fn places(&self) -> &[usize]
+        ensures { result.now ≡ self.now }
+    {
+        self.places.as_slice()
+    }
+
     /// Takes the last name.
     pub(crate) fn pop(&mut self) -> Option<usize>
         ensures { MatchOption result ((self.old ≡ []) × (self.new ≡ self.old)) (λ p. self.old ≡ self.new ++ p ∷ []) }
