@@ -2,6 +2,7 @@
 use Rattle.std.proofs.Common.{◌≡◌, ◌∙◌, ap, sym, refl, ℕ, ◌+◌, arith, Bool, true, false, ltb, if◌then◌else◌, List, [], ◌∷◌, ◌++◌, map, length, Option, Some, None, is_some}
 use Rattle.std.specs.List.{flat_map}
 use Rattle.std.specs.Option.{option_to_list}
+use Rattle.std.specs.Prelude.{MatchOption}
 use Rattle.std.proofs.lemmas.List.{append-nil}
 use Rattle.std.proofs.lemmas.Bool.{false≢true}
 use Rattle.std.proofs.lemmas.Bool.Decides.{nat_tests}
@@ -76,3 +77,21 @@ pub module_ends : (t : Table) (at : ℕ) (n after text : Units) (next : Option �
 module_ends t at n after text next all q found e h is none grown same qualifier =
     ap (λ (u : Units). (u, q)) (same ∙ grown) ∙ ap (λ (r : Option Units). (n ++ dotted (dot_in (node_at t at)), r)) qualifier ∙
     stops n (node_at t at) (nodes_at t (behind t at)) (dot_in (node_at t at)) refl (sym is ∙ none) ∙ ap (λ o. module_from n (nodes_at t (from_part t o))) (sym e) ∙ h
+
+continues : (n : Units) (x : Node) (xs : List Node) (o : Option Units) → dot_in x ≡ o → is_some o ≡ true → module_from (n ++ dotted o) xs ≡ module_from n (x ∷ xs)
+continues n x xs None e f = absurd (false≢true f)
+continues n x xs (Some m) e f = ap (λ (o : Option Units). elim o [ Some m ↦ module_from (n ++ (46 ∷ m)) xs | None ↦ (n, qualifier_in x) ]) (sym e)
+
+from_next : (t : Table) (at : ℕ) (next : Option ℕ) → MatchOption next (behind t at ≡ []) (λ k. behind t at ≡ k ∷ behind t k) → from_part t next ≡ behind t at
+from_next t at None h = sym h
+from_next t at (Some k) h = sym h
+
+pub module_goes_on : (t : Table) (at : ℕ) (n after : Units) (next beyond : Option ℕ) (all : Units × Option Units) (found : Bool)
+    → next ≡ Some at → module_from n (nodes_at t (from_part t next)) ≡ all → found ≡ is_some (dot_in (node_at t at)) → found ≡ true
+    → after ≡ n ++ dotted (dot_in (node_at t at)) → MatchOption beyond (behind t at ≡ []) (λ k. behind t at ≡ k ∷ behind t k)
+    → module_from after (nodes_at t (from_part t beyond)) ≡ all
+module_goes_on t at n after next beyond all found e h is some grown behind_it =
+    ap (λ (u : Units). module_from u (nodes_at t (from_part t beyond))) grown ∙
+    ap (λ ps. module_from (n ++ dotted (dot_in (node_at t at))) (nodes_at t ps)) (from_next t at beyond behind_it) ∙
+    continues n (node_at t at) (nodes_at t (behind t at)) (dot_in (node_at t at)) refl (sym is ∙ some) ∙
+    ap (λ o. module_from n (nodes_at t (from_part t o))) (sym e) ∙ h
