@@ -38,37 +38,37 @@ pub record Alias : Type 0 where
   pub name : Units
   pub target : List Units
 
-abbrev alias_by : ℕ → Units → Option NameMeaning → List Alias
+abbrev pub alias_by : ℕ → Units → Option NameMeaning → List Alias
 alias_by d n (Some (an_alias_of e o target)) =
     if nat_eq e d then record { object = o; name = n; target = target } ∷ [] else []
 alias_by d n _ = []
 
-abbrev alias_at : Program → ℕ → ℕ → Units → List Alias
+abbrev pub alias_at : Program → ℕ → ℕ → Units → List Alias
 alias_at p d o n = alias_by d n (meaning p d o n)
 
-abbrev alias_at_end : Program → ℕ → Units → PathEnd → List Alias
+abbrev pub alias_at_end : Program → ℕ → Units → PathEnd → List Alias
 alias_at_end p d n (at_object s) = if nat_eq s.document d then alias_at p d s.object n else []
 alias_at_end p d n _ = []
 
-abbrev aliases_along : Program → Roots → ℕ → Option ℕ → List Units → List Alias
+abbrev pub aliases_along : Program → Roots → ℕ → Option ℕ → List Units → List Alias
 aliases_along p roots d (Some t) (n ∷ []) = alias_at p d t n
 aliases_along p roots d (Some t) (n ∷ m ∷ rest) =
     alias_at p d t n ++ alias_at_end p d m (end_of p roots (here d t) (n ∷ []))
 aliases_along p roots d _ _ = []
 
-abbrev aliases_of_target : Program → Roots → ℕ → ℕ → List Units → List Alias
+abbrev pub aliases_of_target : Program → Roots → ℕ → ℕ → List Units → List Alias
 aliases_of_target p roots d o [] = []
 aliases_of_target p roots d o (i ∷ rest) = aliases_along p roots d (id_in p roots d (root_of p roots d o) i) rest
 
 -- the aliases of the document that an alias names
-abbrev named_by : Program → Roots → ℕ → Alias → List Alias
+abbrev pub named_by : Program → Roots → ℕ → Alias → List Alias
 named_by p roots d a = aliases_of_target p roots d a.object a.target
 
-abbrev same_alias : Alias → Alias → Bool
+abbrev pub same_alias : Alias → Alias → Bool
 same_alias a b = nat_eq a.object b.object && bytes_eq a.name b.name
 
 -- those that are reached from some, beside those that were seen
-abbrev reached : ℕ → Program → Roots → ℕ → List Alias → List Alias → List Alias
+abbrev pub reached : ℕ → Program → Roots → ℕ → List Alias → List Alias → List Alias
 reached zero p roots d seen todo = seen
 reached (suc f) p roots d seen [] = seen
 reached (suc f) p roots d seen (a ∷ todo) =
@@ -77,22 +77,22 @@ reached (suc f) p roots d seen (a ∷ todo) =
       | false ↦ reached f p roots d (a ∷ seen) (named_by p roots d a ++ todo)
     ]
 
-abbrev count_aliases : List WrittenMember → ℕ
+abbrev pub count_aliases : List WrittenMember → ℕ
 count_aliases [] = 0
 count_aliases (an_alias q def n at target t ∷ rest) = suc (count_aliases rest)
 count_aliases (m ∷ rest) = count_aliases rest
 
-abbrev count_in : List WrittenObject → ℕ
+abbrev pub count_in : List WrittenObject → ℕ
 count_in [] = 0
 count_in (w ∷ rest) = count_aliases w.members + count_in rest
 
 -- each alias names two at most
-abbrev is_on_cycle : Program → Roots → ℕ → Alias → Bool
+abbrev pub is_on_cycle : Program → Roots → ℕ → Alias → Bool
 is_on_cycle p roots d a =
     list_any (same_alias a)
     (reached (suc (3 * count_in (unit_at p d).objects)) p roots d [] (named_by p roots d a))
 
-abbrev alias_cycle : Program → Roots → ℕ → ℕ → WrittenMember → Faults
+abbrev pub alias_cycle : Program → Roots → ℕ → ℕ → WrittenMember → Faults
 alias_cycle p roots d o (an_alias q def n at target t) =
     fault_if (is_on_cycle p roots d (record { object = o; name = n; target = target })) at cause.AliasCycle
 alias_cycle p roots d o _ = []
@@ -106,11 +106,11 @@ abbrev pub is_built_in : TypeRef → Bool
 is_built_in (Builtin t) = true
 is_built_in (OfDocument u) = false
 
-abbrev bad_target : Program → Roots → ℕ → ℕ → Option WrittenValue → Faults
+abbrev pub bad_target : Program → Roots → ℕ → ℕ → Option WrittenValue → Faults
 bad_target p roots d o (Some v) = fault_if (is_none (id_of p roots d o v)) (place_of_value p d v) cause.BadTarget
 bad_target p roots d o None = fault_if (is_built_in (type_of_object p d o)) (place_of_object p d o) cause.BadTarget
 
-abbrev target_faults : Program → Roots → ℕ → ℕ → WrittenObject → Faults
+abbrev pub target_faults : Program → Roots → ℕ → ℕ → WrittenObject → Faults
 target_faults p roots d o w =
     if is_type p d o no.PropertyChanges then bad_target p roots d o (target_in w.members) else []
 

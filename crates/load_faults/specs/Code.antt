@@ -154,7 +154,7 @@ first_names _ = []
 
 -- the names that `var` declares anywhere in statements
 abbrev mutual
-  vars_of : Stmt → List Units
+  pub vars_of : Stmt → List Units
   vars_of (declare q g vs c) = if_var true g (var_names vs)
   vars_of (block q ss) = vars_in ss
   vars_of (when q e s) = vars_of s
@@ -167,7 +167,7 @@ abbrev mutual
   vars_of (stop q c) = []
   vars_of (again q c) = []
 
-  vars_in : Stmts → List Units
+  pub vars_in : Stmts → List Units
   vars_in no_stmts = []
   vars_in (a_stmt s ss) = vars_of s ++ vars_in ss
 
@@ -205,7 +205,7 @@ in_binding h at ss = record h {
 
 -- ---- the deeds of code; `right` says that the expression is assigned to a property
 abbrev mutual
-  deeds : Standpoint → Bool → Expr → List Deed
+  pub deeds : Standpoint → Bool → Expr → List Deed
   deeds h right (name n q) = name_deed h n h.inside
   deeds h right (number n q) = []
   deeds h right (text t q) = []
@@ -224,38 +224,38 @@ abbrev mutual
   deeds h right (assign t g q ts v) =
       writes h t q ++ deeds h false t ++ deeds_of_targets h ts ++ deeds h (is_right h t g ts) v
 
-  deeds_of_list : Standpoint → Exprs → List Deed
+  pub deeds_of_list : Standpoint → Exprs → List Deed
   deeds_of_list h no_exprs = []
   deeds_of_list h (an_expr e es) = deeds h false e ++ deeds_of_list h es
 
-  deeds_of_fields : Standpoint → Fields → List Deed
+  pub deeds_of_fields : Standpoint → Fields → List Deed
   deeds_of_fields h no_fields = []
   deeds_of_fields h (a_field k n q e fs) = deeds h false e ++ deeds_of_fields h fs
 
-  deeds_of_step : Standpoint → Option Place → Callee → Step → List Deed
+  pub deeds_of_step : Standpoint → Option Place → Callee → Step → List Deed
   deeds_of_step h at callee (member n q) = []
   deeds_of_step h at callee (element q e) = deeds h false e
   deeds_of_step h at callee (call q es) = if_pure h (call_of h callee q) ++ deeds_of_list h es
   deeds_of_step h at callee (binding q ss) = if_pure h (call_of h callee q) ++ deeds_of_stmts (in_binding h at ss) ss
 
-  deeds_of_steps : Standpoint → Option Place → Callee → Steps → List Deed
+  pub deeds_of_steps : Standpoint → Option Place → Callee → Steps → List Deed
   deeds_of_steps h at callee no_steps = []
   deeds_of_steps h at callee (a_step s ss) =
       deeds_of_step h at callee s ++ deeds_of_steps h at (callee_behind callee s) ss
 
-  deeds_of_links : Standpoint → Links → List Deed
+  pub deeds_of_links : Standpoint → Links → List Deed
   deeds_of_links h no_links = []
   deeds_of_links h (a_link o q e ls) = deeds h false e ++ deeds_of_links h ls
 
-  deeds_of_choices : Standpoint → Choices → List Deed
+  pub deeds_of_choices : Standpoint → Choices → List Deed
   deeds_of_choices h no_choices = []
   deeds_of_choices h (a_choice c e cs) = deeds h false c ++ deeds h false e ++ deeds_of_choices h cs
 
-  deeds_of_targets : Standpoint → Targets → List Deed
+  pub deeds_of_targets : Standpoint → Targets → List Deed
   deeds_of_targets h no_targets = []
   deeds_of_targets h (a_target t g q ts) = writes h t q ++ deeds h false t ++ deeds_of_targets h ts
 
-  deeds_of_stmt : Standpoint → Stmt → List Deed
+  pub deeds_of_stmt : Standpoint → Stmt → List Deed
   deeds_of_stmt h (empty q) = []
   deeds_of_stmt h (expr e c) = deeds h false e
   deeds_of_stmt h (block q ss) = deeds_of_stmts (within h (lets_in ss)) ss
@@ -274,15 +274,15 @@ abbrev mutual
   deeds_of_stmts h no_stmts = []
   deeds_of_stmts h (a_stmt s ss) = deeds_of_stmt h s ++ deeds_of_stmts h ss
 
-  deeds_of_vars : Standpoint → Vars → List Deed
+  pub deeds_of_vars : Standpoint → Vars → List Deed
   deeds_of_vars h (last_var n q i) = deeds_of_maybe h i
   deeds_of_vars h (a_var n q i vs) = deeds_of_maybe h i ++ deeds_of_vars h vs
 
-  deeds_of_maybe : Standpoint → Maybe → List Deed
+  pub deeds_of_maybe : Standpoint → Maybe → List Deed
   deeds_of_maybe h nothing = []
   deeds_of_maybe h (just e) = deeds h false e
 
-  deeds_of_first : Standpoint → First → List Deed
+  pub deeds_of_first : Standpoint → First → List Deed
   deeds_of_first h no_first = []
   deeds_of_first h (first_expr e) = deeds h false e
   deeds_of_first h (first_declare q g vs) = deeds_of_vars h vs

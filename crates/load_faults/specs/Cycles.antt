@@ -16,11 +16,11 @@ pub record Use : Type 0 where
   pub at : Place
   pub document : ℕ
 
-abbrev used_by : Place → Option TypeRef → Option Use
+abbrev pub used_by : Place → Option TypeRef → Option Use
 used_by at (Some (OfDocument u)) = Some (record { at = at; document = u.0 })
 used_by at _ = None
 
-abbrev use_in : Program → ℕ → TypeUse → Option Use
+abbrev pub use_in : Program → ℕ → TypeUse → Option Use
 use_in p d (uses_type at q n) = used_by at (type_named p d q n)
 use_in p d (misnames_type at) = None
 
@@ -28,17 +28,17 @@ use_in p d (misnames_type at) = None
 abbrev pub uses_of : Program → ℕ → List Use
 uses_of p d = filter_map (use_in p d) (unit_at p d).uses
 
-abbrev is_one_of : ℕ → List ℕ → Bool
+abbrev pub is_one_of : ℕ → List ℕ → Bool
 is_one_of d ds = list_any (nat_eq d) ds
 
-abbrev added : List ℕ → List ℕ → List ℕ → List ℕ
+abbrev pub added : List ℕ → List ℕ → List ℕ → List ℕ
 added seen todo [] = todo
 added seen todo (d ∷ rest) = added seen (if is_one_of d seen || is_one_of d todo then todo else d ∷ todo) rest
 
-abbrev used_documents : Program → ℕ → List ℕ
+abbrev pub used_documents : Program → ℕ → List ℕ
 used_documents p d = map (λ (u : Use). u.document) (uses_of p d)
 
-abbrev reached_from : ℕ → Program → List ℕ → List ℕ → List ℕ
+abbrev pub reached_from : ℕ → Program → List ℕ → List ℕ → List ℕ
 reached_from zero p seen todo = seen
 reached_from (suc n) p seen [] = seen
 reached_from (suc n) p seen (d ∷ todo) =
@@ -48,7 +48,7 @@ reached_from (suc n) p seen (d ∷ todo) =
 abbrev pub reached : Program → ℕ → List ℕ
 reached p d = reached_from (suc (length p)) p [] (d ∷ [])
 
-abbrev cycle_of_use : Program → ℕ → Use → Option Fault
+abbrev pub cycle_of_use : Program → ℕ → Use → Option Fault
 cycle_of_use p d u = if is_one_of d (reached p u.document) then Some (fault u.at cause.UnitCycle) else None
 
 abbrev pub unit_cycle : Program → ℕ → Option Fault

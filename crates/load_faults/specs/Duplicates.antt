@@ -38,7 +38,7 @@ abbrev pub names_again : List Units → List Named → Faults
 names_again seen [] = []
 names_again seen (n ∷ rest) = fault_if (is_in n.name seen) n.at cause.DuplicateName ++ names_again (n.name ∷ seen) rest
 
-abbrev names_twice : Program → ℕ → ℕ → Faults
+abbrev pub names_twice : Program → ℕ → ℕ → Faults
 names_twice p d o = names_again (map (λ (n : Named). n.name) (type_names p d o)) (own_names p d o)
 
 abbrev pub declared_twice : Program → ℕ → Faults
@@ -46,7 +46,7 @@ declared_twice p d = each_object p d (λ o w. names_twice p d o)
 
 -- ---- second: a second id of one object, at the word `id`
 
-abbrev ids_again : Bool → List WrittenMember → Faults
+abbrev pub ids_again : Bool → List WrittenMember → Faults
 ids_again seen [] = []
 ids_again seen (an_id word n at ∷ rest) = fault_if seen word cause.DuplicateName ++ ids_again true rest
 ids_again seen (m ∷ rest) = ids_again seen rest
@@ -64,64 +64,64 @@ pub record Destination : Type 0 where
   pub is_child : Bool
   pub many : Bool
 
-abbrev destination : Way → Option ℕ → Place → Bool → Bool → Destination
+abbrev pub destination : Way → Option ℕ → Place → Bool → Bool → Destination
 destination to cell at is_child many = record { to = to; cell = cell; at = at; is_child = is_child; many = many }
 
-abbrev is_list : PropKind → Bool
+abbrev pub is_list : PropKind → Bool
 is_list (kind.List t) = true
 is_list _ = false
 
-abbrev destination_by : Place → Bool → PathMeaning → List Destination
+abbrev pub destination_by : Place → Bool → PathMeaning → List Destination
 destination_by at child (a_property_of way place k a own) = destination way (Some place) at child (is_list k) ∷ []
 destination_by at child (children_of way) = destination way None at child true ∷ []
 destination_by at child _ = []
 
-abbrev declared_destination : ℕ → ℕ → Place → Option NameMeaning → List Destination
+abbrev pub declared_destination : ℕ → ℕ → Place → Option NameMeaning → List Destination
 declared_destination d o at (Some (a_cell place k a)) = destination (way_to (here d o)) (Some place) at false false ∷ []
 declared_destination d o at _ = []
 
 -- the changes of a PropertyChanges are no values of its own
-abbrev destination_of_value : Program → Roots → ℕ → ℕ → Place → List Units → Purpose → List Destination
+abbrev pub destination_of_value : Program → Roots → ℕ → ℕ → Place → List Units → Purpose → List Destination
 destination_of_value p roots d o at path (by_path s) =
     if is_change p roots d o path then [] else destination_by at false s
 destination_of_value p roots d o at path _ = []
 
-abbrev destination_of_child : Program → Roots → ℕ → ℕ → Place → DefaultProperty → List Destination
+abbrev pub destination_of_child : Program → Roots → ℕ → ℕ → Place → DefaultProperty → List Destination
 destination_of_child p roots d o at (to_property n) =
     destination_by at true (meaning_of_path p roots (here d o) (n ∷ []))
 destination_of_child p roots d o at to_children = destination (way_to (here d o)) None at true true ∷ []
 destination_of_child p roots d o at to_component = destination (way_to (here d o)) None at true false ∷ []
 destination_of_child p roots d o at _ = []
 
-abbrev destinations_of_member : Program → Roots → ℕ → ℕ → WrittenMember → List Destination
+abbrev pub destinations_of_member : Program → Roots → ℕ → ℕ → WrittenMember → List Destination
 destinations_of_member p roots d o (a_property q a k n at (Some v)) = declared_destination d o at (meaning p d o n)
 destinations_of_member p roots d o (a_value at path v) =
     destination_of_value p roots d o at path (purpose_of p roots d o path)
 destinations_of_member p roots d o (a_child at n) = destination_of_child p roots d o at (default_of p d o)
 destinations_of_member p roots d o _ = []
 
-abbrev destinations_of_row : Program → Roots → ℕ → OwnedMember → List Destination
+abbrev pub destinations_of_row : Program → Roots → ℕ → OwnedMember → List Destination
 destinations_of_row p roots d r = destinations_of_member p roots d r.object r.member
 
-abbrev same_hops : List (ℕ × ℕ) → List (ℕ × ℕ) → Bool
+abbrev pub same_hops : List (ℕ × ℕ) → List (ℕ × ℕ) → Bool
 same_hops [] [] = true
 same_hops (a ∷ more) (b ∷ others) = nat_eq a.0 b.0 && nat_eq a.1 b.1 && same_hops more others
 same_hops _ _ = false
 
-abbrev same_place : Option ℕ → Option ℕ → Bool
+abbrev pub same_place : Option ℕ → Option ℕ → Bool
 same_place None None = true
 same_place (Some a) (Some b) = nat_eq a b
 same_place _ _ = false
 
-abbrev same_cell : Destination → Destination → Bool
+abbrev pub same_cell : Destination → Destination → Bool
 same_cell a b = nat_eq a.to.base b.to.base && same_hops a.to.hops b.to.hops && same_place a.cell b.cell
 
 -- the child objects of one list property are one value
-abbrev is_second : Destination → Destination → Bool
+abbrev pub is_second : Destination → Destination → Bool
 is_second a b = same_cell a b && not (a.is_child && b.is_child && a.many)
 
 -- in the order of writing, over those that were seen
-abbrev reached_twice : List Destination → List Destination → Faults
+abbrev pub reached_twice : List Destination → List Destination → Faults
 reached_twice seen [] = []
 reached_twice seen (g ∷ rest) =
     fault_if (list_any (is_second g) seen) g.at cause.DuplicateName ++ reached_twice (g ∷ seen) rest
@@ -131,7 +131,7 @@ given_twice p roots d = reached_twice [] (flat_map (destinations_of_row p roots 
 
 -- ---- fourth: a second value for one role of a row
 
-abbrev roles_again : List Units → List WrittenMember → Faults
+abbrev pub roles_again : List Units → List WrittenMember → Faults
 roles_again seen [] = []
 roles_again seen (a_value at (n ∷ []) v ∷ rest) =
     fault_if (is_in n seen) at cause.DuplicateName ++ roles_again (n ∷ seen) rest

@@ -102,7 +102,7 @@ pub data Purpose : Type 0 where
   for_target : Purpose
   by_path : PathMeaning → Purpose
 
-abbrev is_attached_name : Units → Bool
+abbrev pub is_attached_name : Units → Bool
 is_attached_name n = bytes_eq n (codes "onCompleted") || bytes_eq n (codes "onDestruction")
 
 -- `Component.onCompleted` and `Component.onDestruction`, by their spelling
@@ -110,15 +110,15 @@ abbrev pub is_attached : List Units → Bool
 is_attached (c ∷ n ∷ []) = bytes_eq c (codes "Component") && is_attached_name n
 is_attached _ = false
 
-abbrev is_handler_path : List Units → Bool
+abbrev pub is_handler_path : List Units → Bool
 is_handler_path (n ∷ []) = is_handler_name n
 is_handler_path _ = false
 
 -- Each handler of a Connections is for its target.
-abbrev for_its_target : Program → ℕ → ℕ → List Units → Bool
+abbrev pub for_its_target : Program → ℕ → ℕ → List Units → Bool
 for_its_target p d o path = is_type p d o no.Connections && is_handler_path path
 
-abbrev purpose_in_object : Program → Roots → ℕ → ℕ → List Units → Purpose
+abbrev pub purpose_in_object : Program → Roots → ℕ → ℕ → List Units → Purpose
 purpose_in_object p roots d o path =
     elim (is_attached path) [
       | true ↦ as_attached

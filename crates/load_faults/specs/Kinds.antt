@@ -28,7 +28,7 @@ use Rattle.load_faults.specs.Faults.{Faults, fault_at, fault_if, each_object, ea
 -- ---- a value for a property of a kind
 
 -- a Component takes every object, since one is made around what is none
-abbrev takes_object : Program → ℕ → PropKind → ℕ → Bool
+abbrev pub takes_object : Program → ℕ → PropKind → ℕ → Bool
 takes_object p d kind.Component n = true
 takes_object p d kind.Var n = true
 takes_object p d kind.Variant n = true
@@ -37,48 +37,48 @@ takes_object p d (kind.Object t) n = is_a p d n t
 takes_object p d (kind.List t) n = is_a p d n t
 takes_object p d _ n = false
 
-abbrev bad_object : Program → ℕ → PropKind → ℕ → Faults
+abbrev pub bad_object : Program → ℕ → PropKind → ℕ → Faults
 bad_object p d k n =
     fault_if (is_type p d n no.ListElement || not (takes_object p d k n)) (place_of_object p d n) cause.BadKind
 
-abbrev takes_list : PropKind → Bool
+abbrev pub takes_list : PropKind → Bool
 takes_list (kind.List t) = true
 takes_list kind.Var = true
 takes_list kind.Variant = true
 takes_list kind.Bool = true
 takes_list _ = false
 
-abbrev bad_literal : PropKind → Place → Option Value → Faults
+abbrev pub bad_literal : PropKind → Place → Option Value → Faults
 bad_literal k at None = []
 bad_literal k at (Some v) = fault_if (not (takes_literal k (kind_of v))) at cause.BadKind
 
-abbrev bad_given : Program → ℕ → PropKind → WrittenValue → Faults
+abbrev pub bad_given : Program → ℕ → PropKind → WrittenValue → Faults
 bad_given p d k (by_stmt s) = bad_literal k (place_of_value p d (by_stmt s)) (literal_of s)
 bad_given p d k (by_object n) = bad_object p d k n
 bad_given p d k (by_list at ns) = if takes_list k then flat_map (bad_object p d k) ns else fault_at at cause.BadKind
 
 -- ---- a value for something else
 
-abbrev bad_element : Program → ℕ → ℕ → Faults
+abbrev pub bad_element : Program → ℕ → ℕ → Faults
 bad_element p d n = fault_if (is_type p d n no.ListElement) (place_of_object p d n) cause.BadKind
 
 -- for the children of an Item
-abbrev bad_children : Program → ℕ → WrittenValue → Faults
+abbrev pub bad_children : Program → ℕ → WrittenValue → Faults
 bad_children p d (by_stmt s) = fault_at (place_of_value p d (by_stmt s)) cause.BadKind
 bad_children p d (by_object n) = bad_element p d n
 bad_children p d (by_list at ns) = flat_map (bad_element p d) ns
 
 -- for a handler: every statement is a body
-abbrev bad_body : Program → ℕ → WrittenValue → Faults
+abbrev pub bad_body : Program → ℕ → WrittenValue → Faults
 bad_body p d (by_stmt s) = []
 bad_body p d v = fault_at (place_of_value p d v) cause.BadKind
 
 -- the `target` of a PropertyChanges has causes of its own
-abbrev bad_for : Program → ℕ → WrittenValue → PropKind → Access → Bool → Faults
+abbrev pub bad_for : Program → ℕ → WrittenValue → PropKind → Access → Bool → Faults
 bad_for p d v k Id true = []
 bad_for p d v k a own = bad_given p d k v
 
-abbrev bad_value : Program → ℕ → WrittenValue → Purpose → Faults
+abbrev pub bad_value : Program → ℕ → WrittenValue → Purpose → Faults
 bad_value p d v as_attached = bad_body p d v
 bad_value p d v for_target = bad_body p d v
 bad_value p d v (by_path (a_handler names)) = bad_body p d v
@@ -88,17 +88,17 @@ bad_value p d v _ = []
 
 -- ---- a child object
 
-abbrev bad_by_meaning : Program → ℕ → ℕ → PathMeaning → Faults
+abbrev pub bad_by_meaning : Program → ℕ → ℕ → PathMeaning → Faults
 bad_by_meaning p d n (a_property_of way place k a own) = bad_object p d k n
 bad_by_meaning p d n _ = []
 
-abbrev bad_child : Program → Roots → ℕ → ℕ → ℕ → DefaultProperty → Faults
+abbrev pub bad_child : Program → Roots → ℕ → ℕ → ℕ → DefaultProperty → Faults
 bad_child p roots d o n (to_property m) = bad_by_meaning p d n (meaning_of_path p roots (here d o) (m ∷ []))
 bad_child p roots d o n to_rows = fault_if (not (is_type p d n no.ListElement)) (place_of_object p d n) cause.BadKind
 bad_child p roots d o n no_default = []
 bad_child p roots d o n _ = bad_element p d n
 
-abbrev bad_member : Program → Roots → ℕ → ℕ → WrittenMember → Faults
+abbrev pub bad_member : Program → Roots → ℕ → ℕ → WrittenMember → Faults
 bad_member p roots d o (a_property q a k n at (Some v)) = bad_given p d (kind_named p d k) v
 bad_member p roots d o (a_value at path v) = bad_value p d v (purpose_of p roots d o path)
 bad_member p roots d o (a_child at n) = bad_child p roots d o n (default_of p d o)
@@ -112,56 +112,56 @@ pub record RoleValue : Type 0 where
   pub kind : Kind
   pub at : Place
 
-abbrev role_kind : Kind → Kind
+abbrev pub role_kind : Kind → Kind
 role_kind value.Null = value.Object
 role_kind k = k
 
-abbrev same_kind : Kind → Kind → Bool
+abbrev pub same_kind : Kind → Kind → Bool
 same_kind value.Bool value.Bool = true
 same_kind value.Num value.Num = true
 same_kind value.Text value.Text = true
 same_kind value.Object value.Object = true
 same_kind _ _ = false
 
-abbrev role_by : Units → Place → Option Value → Option RoleValue
+abbrev pub role_by : Units → Place → Option Value → Option RoleValue
 role_by n at None = None
 role_by n at (Some v) = Some (record { role = n; kind = role_kind (kind_of v); at = at })
 
-abbrev role_in : Program → ℕ → WrittenMember → Option RoleValue
+abbrev pub role_in : Program → ℕ → WrittenMember → Option RoleValue
 role_in p d (a_value q (n ∷ []) (by_stmt s)) = role_by n (place_of_value p d (by_stmt s)) (literal_of s)
 role_in p d _ = None
 
-abbrev roles_of_child : Program → ℕ → WrittenMember → List RoleValue
+abbrev pub roles_of_child : Program → ℕ → WrittenMember → List RoleValue
 roles_of_child p d (a_child q n) =
     if is_type p d n no.ListElement then filter_map (role_in p d) (object_at p d n).members else []
 roles_of_child p d _ = []
 
-abbrev roles_of_layer : Program → Layer → List RoleValue
+abbrev pub roles_of_layer : Program → Layer → List RoleValue
 roles_of_layer p (of_type t) = []
 roles_of_layer p (of_object d o) = flat_map (roles_of_child p d) (object_at p d o).members
 
-abbrev first_kind : List RoleValue → Units → Kind → Kind
+abbrev pub first_kind : List RoleValue → Units → Kind → Kind
 first_kind [] role k = k
 first_kind (v ∷ rest) role k = if bytes_eq v.role role then v.kind else first_kind rest role k
 
-abbrev bad_role : List RoleValue → RoleValue → Faults
+abbrev pub bad_role : List RoleValue → RoleValue → Faults
 bad_role all v = fault_if (not (same_kind v.kind (first_kind all v.role v.kind))) v.at cause.BadKind
 
 -- over the rows of its types' documents and its own
-abbrev bad_roles : Program → ℕ → ℕ → Faults
+abbrev pub bad_roles : Program → ℕ → ℕ → Faults
 bad_roles p d o = flat_map (bad_role (flat_map (roles_of_layer p) (layers p d o))) (roles_of_layer p (of_object d o))
 
 -- ---- an object of which it came out too late that a Component is made around it: the target of the alias that says so
 -- stands in it
 
-abbrev comes_late : IsRoot → IsRoot → Bool
+abbrev pub comes_late : IsRoot → IsRoot → Bool
 comes_late found settled = is_some found && not (same_root found settled)
 
-abbrev bad_root : Program → Roots → ℕ → ℕ → WrittenObject → Faults
+abbrev pub bad_root : Program → Roots → ℕ → ℕ → WrittenObject → Faults
 bad_root p roots d o w =
     fault_if (comes_late (root_as p roots d o w.role) (is_root_at roots d o)) (place_of_object p d o) cause.BadKind
 
-abbrev bad_inside : Program → Roots → ℕ → ℕ → WrittenObject → Faults
+abbrev pub bad_inside : Program → Roots → ℕ → ℕ → WrittenObject → Faults
 bad_inside p roots d o w = (if is_type p d o no.ListModel then bad_roles p d o else []) ++ bad_root p roots d o w
 
 -- the root of a document is no ListElement

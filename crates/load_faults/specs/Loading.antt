@@ -35,7 +35,7 @@ faults_in p roots d =
     code_faults p roots d
 
 -- the first of what a test finds in the documents of this order, with the file
-abbrev first_found : (ℕ → Option Fault) → Program → List ℕ → Option (Path × Fault)
+abbrev pub first_found : (ℕ → Option Fault) → Program → List ℕ → Option (Path × Fault)
 first_found f p [] = None
 first_found f p (d ∷ rest) = elim (f d) [ Some x ↦ Some ((unit_at p d).file.path, x) | None ↦ first_found f p rest ]
 
@@ -55,7 +55,7 @@ abbrev pub grown : Library → List File → Library
 grown known [] = known
 grown known (file ∷ rest) = grown (if is_among file known then known else known ++ file ∷ []) rest
 
-abbrev numbers : Program → List File → List ℕ
+abbrev pub numbers : Program → List File → List ℕ
 numbers p files = filter_map (number_of p) files
 
 -- ---- the answer
@@ -65,18 +65,18 @@ pub data Loading : Type 0 where
   refuses : Path → Fault → Loading
   loads : Library → List ℕ → Loading  -- the library afterwards, and the program's documents in reading order
 
-abbrev by_names : Library → List ℕ → Option (Path × Fault) → Loading
+abbrev pub by_names : Library → List ℕ → Option (Path × Fault) → Loading
 by_names known order (Some x) = refuses x.0 x.1
 by_names known order None = loads known order
 
-abbrev by_cycles : Library → Program → List ℕ → Option (Path × Fault) → Loading
+abbrev pub by_cycles : Library → Program → List ℕ → Option (Path × Fault) → Loading
 by_cycles known p order (Some x) = refuses x.0 x.1
 by_cycles known p order None = by_names known order (name_found p order)
 
-abbrev by_order : Library → Program → List ℕ → Loading
+abbrev pub by_order : Library → Program → List ℕ → Loading
 by_order known p order = by_cycles known p order (cycle_found p order)
 
-abbrev by_reading : Sources → Library → Reading → Loading
+abbrev pub by_reading : Sources → Library → Reading → Loading
 by_reading sources known unfinished = unending
 by_reading sources known (refused file f) = refuses file.path f
 by_reading sources known (all_read files) =

@@ -31,7 +31,7 @@ name_of_function (function p n q ps k ss) = n
 abbrev pub is_handler_function : Program → ℕ → ℕ → Function → Bool
 is_handler_function p d o f = is_type p d o no.Connections && is_handler_name (name_of_function f)
 
-abbrev found_function : Program → ℕ → ℕ → Function → NameInCode
+abbrev pub found_function : Program → ℕ → ℕ → Function → NameInCode
 found_function p d o f = if is_handler_function p d o f then finds_member else finds_function d o f
 
 -- the children of an Item have no name in expressions
@@ -48,17 +48,17 @@ member_found p d o n = option_and_then (found_as_member p) (meaning p d o n)
 
 -- ---- scripts and globals
 
-abbrev globals : List Units
+abbrev pub globals : List Units
 globals =
     codes "undefined" ∷ codes "Math" ∷ codes "Qt" ∷ codes "console" ∷ codes "String" ∷ codes "Loader" ∷ codes "Binding" ∷ []
 
-abbrev script_at : Program → ℕ → Units → Option ℕ
+abbrev pub script_at : Program → ℕ → Units → Option ℕ
 script_at p d text =
     let here = directory_of (unit_at p d).file.path in
     number_of p (record { is_script = true; path = joined_to here (utf8_of text) })
 
 -- of two scripts with one qualifier the later counts
-abbrev script_of : Program → ℕ → Units → List Import → Option ℕ
+abbrev pub script_of : Program → ℕ → Units → List Import → Option ℕ
 script_of p d n [] = None
 script_of p d n (import_module first q ns v qualifier c ∷ rest) = script_of p d n rest
 script_of p d n (import_text t q None c ∷ rest) = script_of p d n rest
@@ -70,16 +70,16 @@ abbrev pub function_in : List Function → Units → Option Function
 function_in [] n = None
 function_in (f ∷ rest) n = option_or (function_in rest n) (if bytes_eq (name_of_function f) n then Some f else None)
 
-abbrev global_named : Units → NameInCode
+abbrev pub global_named : Units → NameInCode
 global_named n = if is_in n globals then finds_global else finds_nothing
 
-abbrev script_or_global : Program → ℕ → Units → NameInCode
+abbrev pub script_or_global : Program → ℕ → Units → NameInCode
 script_or_global p d n = unwrap_or (option_map finds_script (script_of p d n (unit_at p d).imports)) (global_named n)
 
 -- ---- the order of names: the ids of the component, the scope object, the component's root, and the enclosing
 -- components outwards in the same way
 
-abbrev found_outwards : ℕ → Program → Roots → ℕ → Option NameInCode → ℕ → Units → Option NameInCode
+abbrev pub found_outwards : ℕ → Program → Roots → ℕ → Option NameInCode → ℕ → Units → Option NameInCode
 found_outwards zero p roots d scope root n = None
 found_outwards (suc f) p roots d scope root n =
     option_or (option_map finds_id (id_in p roots d root n))
@@ -102,14 +102,14 @@ pub record Standpoint : Type 0 where
   pub inside : Option Place
   pub pure : Bool
 
-abbrev found_in_document : Standpoint → Units → NameInCode
+abbrev pub found_in_document : Standpoint → Units → NameInCode
 found_in_document h n =
     let deep = suc (length (unit_at h.program h.document).objects) in
     let scope = member_found h.program h.scope_document h.scope n in
     unwrap_or (found_outwards deep h.program h.roots h.document scope (root_of h.program h.roots h.document h.object) n)
     (script_or_global h.program h.document n)
 
-abbrev found_in_script : Standpoint → Units → NameInCode
+abbrev pub found_in_script : Standpoint → Units → NameInCode
 found_in_script h n =
     let functions = (unit_at h.program h.document).functions in
     unwrap_or (option_map (finds_function h.document 0) (function_in functions n)) (global_named n)

@@ -34,16 +34,16 @@ rank timers_and_making = 3
 rank rows_and_loading = 4
 rank hosts = 5
 
-abbrev later : Stage → Stage → Stage
+abbrev pub later : Stage → Stage → Stage
 later a b = if nat_lt (rank a) (rank b) then b else a
 
-abbrev latest : List Stage → Stage
+abbrev pub latest : List Stage → Stage
 latest [] = object_tree
 latest (x ∷ rest) = later x (latest rest)
 
 -- ---- the table
 
-abbrev stage_of_type : TypeNo → Stage
+abbrev pub stage_of_type : TypeNo → Stage
 stage_of_type no.Connections = handlers_and_drain
 stage_of_type no.State = states
 stage_of_type no.PropertyChanges = states
@@ -56,16 +56,16 @@ stage_of_type no.Loader = rows_and_loading
 stage_of_type no.Host = hosts
 stage_of_type _ = object_tree
 
-abbrev making_methods : List Units
+abbrev pub making_methods : List Units
 making_methods = codes "createObject" ∷ codes "destroy" ∷ codes "start" ∷ codes "stop" ∷ codes "restart" ∷ []
 
-abbrev row_methods : List Units
+abbrev pub row_methods : List Units
 row_methods =
     codes "append" ∷ codes "insert" ∷ codes "remove" ∷ codes "move" ∷ codes "set" ∷ codes "setProperty" ∷
     codes "clear" ∷ codes "get" ∷ codes "itemAt" ∷ []
 
 -- of a name that is called behind a dot
-abbrev stage_of_call : Units → Stage
+abbrev pub stage_of_call : Units → Stage
 stage_of_call n =
     if bytes_eq n (codes "call") then hosts
     else (if is_in n row_methods then rows_and_loading
@@ -74,28 +74,28 @@ stage_of_call n =
 
 -- ---- the names that are called behind a dot, and `binding` where it stands behind `Qt.`
 
-abbrev calls : Steps → Bool
+abbrev pub calls : Steps → Bool
 calls (a_step (call q es) ss) = true
 calls (a_step (binding q ss) rest) = true
 calls _ = false
 
-abbrev is_binding : Expr → Units → Bool
+abbrev pub is_binding : Expr → Units → Bool
 is_binding (name n q) m = bytes_eq n (codes "Qt") && bytes_eq m (codes "binding")
 is_binding _ m = false
 
-abbrev called : Bool → Units → List Units
+abbrev pub called : Bool → Units → List Units
 called b m = if b then m ∷ [] else []
 
-abbrev called_at : Expr → Step → Steps → List Units
+abbrev pub called_at : Expr → Step → Steps → List Units
 called_at e (member m q) rest = called (calls rest || is_binding e m) m
 called_at e _ rest = []
 
-abbrev called_behind : Step → Steps → List Units
+abbrev pub called_behind : Step → Steps → List Units
 called_behind (member m q) rest = called (calls rest) m
 called_behind _ rest = []
 
 abbrev mutual
-  dots : Expr → List Units
+  pub dots : Expr → List Units
   dots (name n q) = []
   dots (number n q) = []
   dots (text t q) = []
@@ -110,37 +110,37 @@ abbrev mutual
   dots (choose c e cs f) = dots c ++ dots e ++ dots_of_choices cs ++ dots f
   dots (assign t g q ts v) = dots t ++ dots_of_targets ts ++ dots v
 
-  dots_of_list : Exprs → List Units
+  pub dots_of_list : Exprs → List Units
   dots_of_list no_exprs = []
   dots_of_list (an_expr e es) = dots e ++ dots_of_list es
 
-  dots_of_fields : Fields → List Units
+  pub dots_of_fields : Fields → List Units
   dots_of_fields no_fields = []
   dots_of_fields (a_field k n q e fs) = dots e ++ dots_of_fields fs
 
-  dots_of_step : Step → List Units
+  pub dots_of_step : Step → List Units
   dots_of_step (member n q) = []
   dots_of_step (element q e) = dots e
   dots_of_step (call q es) = dots_of_list es
   dots_of_step (binding q ss) = dots_in ss
 
-  dots_of_steps : Steps → List Units
+  pub dots_of_steps : Steps → List Units
   dots_of_steps no_steps = []
   dots_of_steps (a_step s ss) = called_behind s ss ++ dots_of_step s ++ dots_of_steps ss
 
-  dots_of_links : Links → List Units
+  pub dots_of_links : Links → List Units
   dots_of_links no_links = []
   dots_of_links (a_link o q e ls) = dots e ++ dots_of_links ls
 
-  dots_of_choices : Choices → List Units
+  pub dots_of_choices : Choices → List Units
   dots_of_choices no_choices = []
   dots_of_choices (a_choice c e cs) = dots c ++ dots e ++ dots_of_choices cs
 
-  dots_of_targets : Targets → List Units
+  pub dots_of_targets : Targets → List Units
   dots_of_targets no_targets = []
   dots_of_targets (a_target t g q ts) = dots t ++ dots_of_targets ts
 
-  dots_of : Stmt → List Units
+  pub dots_of : Stmt → List Units
   dots_of (empty q) = []
   dots_of (expr e c) = dots e
   dots_of (block q ss) = dots_in ss
@@ -153,41 +153,41 @@ abbrev mutual
   dots_of (stop q c) = []
   dots_of (again q c) = []
 
-  dots_in : Stmts → List Units
+  pub dots_in : Stmts → List Units
   dots_in no_stmts = []
   dots_in (a_stmt s ss) = dots_of s ++ dots_in ss
 
-  dots_of_vars : Vars → List Units
+  pub dots_of_vars : Vars → List Units
   dots_of_vars (last_var n q i) = dots_of_maybe i
   dots_of_vars (a_var n q i vs) = dots_of_maybe i ++ dots_of_vars vs
 
-  dots_of_maybe : Maybe → List Units
+  pub dots_of_maybe : Maybe → List Units
   dots_of_maybe nothing = []
   dots_of_maybe (just e) = dots e
 
-  dots_of_first : First → List Units
+  pub dots_of_first : First → List Units
   dots_of_first no_first = []
   dots_of_first (first_expr e) = dots e
   dots_of_first (first_declare q g vs) = dots_of_vars vs
 
 -- ---- what the members of a document need
 
-abbrev stages_of_value : WrittenValue → List Stage
+abbrev pub stages_of_value : WrittenValue → List Stage
 stages_of_value (by_stmt s) = map stage_of_call (dots_of s)
 stages_of_value _ = []
 
 -- the states of an Item are a list of States
-abbrev stage_of_purpose : Purpose → Stage
+abbrev pub stage_of_purpose : Purpose → Stage
 stage_of_purpose as_attached = handlers_and_drain
 stage_of_purpose for_target = handlers_and_drain
 stage_of_purpose (by_path (a_handler names)) = handlers_and_drain
 stage_of_purpose (by_path (a_property_of way place (kind.List (Builtin no.State)) a own)) = states
 stage_of_purpose _ = object_tree
 
-abbrev stages_of_function : Function → List Stage
+abbrev pub stages_of_function : Function → List Stage
 stages_of_function (function q n r ps k ss) = map stage_of_call (dots_in ss)
 
-abbrev stages_of_member : Program → Roots → ℕ → ℕ → WrittenMember → List Stage
+abbrev pub stages_of_member : Program → Roots → ℕ → ℕ → WrittenMember → List Stage
 stages_of_member p roots d o (a_property q a k n at (Some v)) = stages_of_value v
 stages_of_member p roots d o (a_value at path v) =
     stage_of_purpose (purpose_of p roots d o path) ∷ stages_of_value v
@@ -195,12 +195,12 @@ stages_of_member p roots d o (a_signal q n at names) = handlers_and_drain ∷ []
 stages_of_member p roots d o (a_function q f n at) = stages_of_function f
 stages_of_member p roots d o _ = []
 
-abbrev stage_of_found : Option TypeRef → Stage
+abbrev pub stage_of_found : Option TypeRef → Stage
 stage_of_found (Some (Builtin t)) = stage_of_type t
 stage_of_found _ = object_tree
 
 -- the kind of a property is a use of its type
-abbrev stage_of_use : Program → ℕ → TypeUse → Stage
+abbrev pub stage_of_use : Program → ℕ → TypeUse → Stage
 stage_of_use p d (uses_type at q n) = stage_of_found (type_named p d q n)
 stage_of_use p d (misnames_type at) = object_tree
 
@@ -211,7 +211,7 @@ stage_of_unit p roots d =
     flat_map (λ (r : OwnedMember). stages_of_member p roots d r.object r.member) unit.rows ++
     flat_map stages_of_function unit.functions)
 
-abbrev stage_from : Program → Roots → ℕ → List Unit → Stage
+abbrev pub stage_from : Program → Roots → ℕ → List Unit → Stage
 stage_from p roots d [] = object_tree
 stage_from p roots d (u ∷ rest) = later (stage_of_unit p roots d) (stage_from p roots (suc d) rest)
 

@@ -30,7 +30,7 @@ use Rattle.machine_model.specs.Showing.{held_in}
 
 -- ---- what an object is written with
 
-abbrev handler_at : ℕ → HandlerRow → SignalRef × ExprNo
+abbrev pub handler_at : ℕ → HandlerRow → SignalRef × ExprNo
 handler_at u h = (h.signal, record { unit = unit_no u; at = h.body })
 
 abbrev pub handlers_written : AllRows → Planned → List (SignalRef × ExprNo)
@@ -53,7 +53,7 @@ pub record NamedSignal : Type 0 where
   pub name : Units
   pub parameters : List Units
 
-abbrev signal_in : NameRow → Option NamedSignal
+abbrev pub signal_in : NameRow → Option NamedSignal
 signal_in r = elim (r.finds) as (λ _. Option NamedSignal) [
   | finds_signal s parameters ↦ Some (record { number = signal_no s; name = r.name; parameters = parameters })
   | _ ↦ None
@@ -62,10 +62,10 @@ signal_in r = elim (r.finds) as (λ _. Option NamedSignal) [
 abbrev pub signals_written : AllRows → Planned → List NamedSignal
 signals_written units x = filter_map signal_in (names_written units x)
 
-abbrev no_signal : NamedSignal
+abbrev pub no_signal : NamedSignal
 no_signal = record { number = 0; name = []; parameters = [] }
 
-abbrev signal_at : AllRows → Planned → ℕ → NamedSignal
+abbrev pub signal_at : AllRows → Planned → ℕ → NamedSignal
 signal_at units x n = unwrap_or (find (λ (s : NamedSignal). nat_eq s.number n) (signals_written units x)) no_signal
 
 -- ---- the object of a number
@@ -76,7 +76,7 @@ written_at m o = planned_at m.written o.0
 abbrev pub builtin_in : Machine → ObjNo → TypeNo
 builtin_in m o = unwrap_or (option_map (builtin_planned m.units) (written_at m o)) no.QtObject
 
-abbrev is_condemned_object : ObjNo → Object → Bool
+abbrev pub is_condemned_object : ObjNo → Object → Bool
 is_condemned_object o x = nat_eq x.number.0 o.0 && x.condemned
 
 abbrev pub is_condemned : Machine → ObjNo → Bool
@@ -85,24 +85,24 @@ is_condemned m o = list_any (is_condemned_object o) m.tree.objects
 -- ---- the reaction of an object to a change of one of its properties
 
 -- the change of the property at a place has twice the number
-abbrev reaction_at : TypeNo → ℕ → Option Units
+abbrev pub reaction_at : TypeNo → ℕ → Option Units
 reaction_at no.Connections n = if nat_eq n (2 * 1) then Some (codes "target") else None
 reaction_at t n = None
 
-abbrev reaction_to : TypeNo → Signal → Option Units
+abbrev pub reaction_to : TypeNo → Signal → Option Units
 reaction_to t (numbered n) = reaction_at t n
 reaction_to t _ = None
 
-abbrev delivery : ObjNo → Bool → Deed → Delivery
+abbrev pub delivery : ObjNo → Bool → Deed → Delivery
 delivery o aimed deed = record { object = o; deed = deed; is_aimed = aimed }
 
-abbrev of_option : {A B : Type 0} → (A → B) → Option A → List B
+abbrev pub of_option : {A B : Type 0} → (A → B) → Option A → List B
 of_option f None = []
 of_option f (Some a) = f a ∷ []
 
 -- ---- the handlers of the object
 
-abbrev is_for : SignalRef → Signal → Bool
+abbrev pub is_for : SignalRef → Signal → Bool
 is_for (change_of place) (numbered n) = nat_eq (2 * place) n
 is_for (own_signal k) (numbered n) = nat_eq (2 * k + 1) n
 is_for on_completed completed = true
@@ -110,24 +110,24 @@ is_for on_destruction destruction = true
 is_for _ _ = false
 
 -- the handler's name as it is told
-abbrev handler_name : AllRows → Planned → Signal → Units
+abbrev pub handler_name : AllRows → Planned → Signal → Units
 handler_name units x (numbered n) = handler_of (signal_at units x n).name
 handler_name units x completed = codes "onCompleted"
 handler_name units x destruction = codes "onDestruction"
 
-abbrev own_handler : Machine → Planned → ObjNo → Signal → List Value → SignalRef × ExprNo → List Delivery
+abbrev pub own_handler : Machine → Planned → ObjNo → Signal → List Value → SignalRef × ExprNo → List Delivery
 own_handler m x o s args h = elim (is_for h.0 s) [
   | true ↦ delivery o false (runs (handler_name m.units x s) h.1 [] args) ∷ []
   | false ↦ []
 ]
 
-abbrev own_handlers : Machine → ObjNo → Signal → List Value → Option Planned → List Delivery
+abbrev pub own_handlers : Machine → ObjNo → Signal → List Value → Option Planned → List Delivery
 own_handlers m o s args None = []
 own_handlers m o s args (Some x) = flat_map (own_handler m x o s args) (handlers_written m.units x)
 
 -- ---- Connections
 
-abbrev is_object : ObjNo → Value → Bool
+abbrev pub is_object : ObjNo → Value → Bool
 is_object o (AnObject p) = nat_eq p.0 o.0
 is_object o (AComponent p) = nat_eq p.0 o.0
 is_object o v = false
@@ -136,27 +136,27 @@ is_object o v = false
 abbrev pub is_enabled_on : Machine → ObjNo → ObjNo → Bool
 is_enabled_on m c o = is_set (held_in m (cell_at c 2)) && is_object o (held_in m (cell_at c 1))
 
-abbrev aims_at : Machine → ObjNo → ObjNo → Bool
+abbrev pub aims_at : Machine → ObjNo → ObjNo → Bool
 aims_at m o c = same_type no.Connections (builtin_in m c) && (not (is_condemned m c) && is_enabled_on m c o)
 
 abbrev pub aimed_name : SignalRef → Option Units
 aimed_name (of_target name) = Some name
 aimed_name _ = None
 
-abbrev is_aimed_by : Units → SignalRef → Bool
+abbrev pub is_aimed_by : Units → SignalRef → Bool
 is_aimed_by handler s = unwrap_or (option_map (bytes_eq handler) (aimed_name s)) false
 
-abbrev aimed_handler : ObjNo → NamedSignal → List Value → SignalRef × ExprNo → List Delivery
+abbrev pub aimed_handler : ObjNo → NamedSignal → List Value → SignalRef × ExprNo → List Delivery
 aimed_handler c signal args h = elim (is_aimed_by (handler_of signal.name) h.0) [
   | true ↦ delivery c true (runs (handler_of signal.name) h.1 signal.parameters args) ∷ []
   | false ↦ []
 ]
 
-abbrev handlers_aimed : Machine → NamedSignal → List Value → ObjNo → List Delivery
+abbrev pub handlers_aimed : Machine → NamedSignal → List Value → ObjNo → List Delivery
 handlers_aimed m signal args c =
     flat_map (aimed_handler c signal args) (unwrap_or (option_map (handlers_written m.units) (written_at m c)) [])
 
-abbrev connections : Machine → ObjNo → NamedSignal → List Value → List Object → List Delivery
+abbrev pub connections : Machine → ObjNo → NamedSignal → List Value → List Object → List Delivery
 connections m o signal args [] = []
 connections m o signal args (x ∷ rest) = elim (aims_at m o x.number) [
   | true ↦ handlers_aimed m signal args x.number ++ connections m o signal args rest
@@ -164,7 +164,7 @@ connections m o signal args (x ∷ rest) = elim (aims_at m o x.number) [
 ]
 
 -- the attached handlers are for the object alone
-abbrev aimed_handlers : Machine → ObjNo → Signal → List Value → Option Planned → List Delivery
+abbrev pub aimed_handlers : Machine → ObjNo → Signal → List Value → Option Planned → List Delivery
 aimed_handlers m o (numbered n) args (Some x) = connections m o (signal_at m.units x n) args m.tree.objects
 aimed_handlers m o s args _ = []
 

@@ -18,11 +18,11 @@ use Rattle.instance_plans.specs.Numbers.{AllRows, rows_at}
 abbrev pub body_at : AllRows → ExprNo → Body
 body_at units e = unwrap_or (slice_get (rows_at units e.unit.0).bodies e.at) (of_statements no_stmts)
 
-abbrev same_place : Place → Place → Bool
+abbrev pub same_place : Place → Place → Bool
 same_place a b = nat_eq a.line b.line && nat_eq a.column b.column
 
 -- the function of the `Qt.binding` whose call stands at a place of the text's unit
-abbrev binding_at : AllRows → ExprNo → Place → ExprNo
+abbrev pub binding_at : AllRows → ExprNo → Place → ExprNo
 binding_at units e at =
     unwrap_or (option_map (λ (b : Place × ℕ). record { unit = e.unit; at = b.1 })
     (find (λ (b : Place × ℕ). same_place (b.0) at) (rows_at units e.unit.0).bindings)) e
@@ -36,7 +36,7 @@ binding_asks units e home = asks_whole (code_of units) home e (text_of (body_at 
 
 -- names of parameters are for statements, those of the signal that one is written for or that it now runs for: a function has
 -- its own
-abbrev names_for : Body → List Units → List Units
+abbrev pub names_for : Body → List Units → List Units
 names_for (of_function f) names = []
 names_for (of_statement s own) names = own ++ names
 names_for b names = names
