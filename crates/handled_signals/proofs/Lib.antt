@@ -1,0 +1,4 @@
+pub mod LayerLemmas
+pub mod FoundLemmas
+pub mod HeardLemmas
+pub mod ProgramLemmas
