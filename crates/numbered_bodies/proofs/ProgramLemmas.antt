@@ -29,13 +29,13 @@ use Rattle.numbered_bodies.proofs.BodyLemmas.{count, body_counted}
 -- ---- rows and members, one by one
 
 -- of each row its object, and whether it has a body
-abbrev Alike : Program → ℕ → Table → List UnitRow → List Bool → List OwnedMember → Type 0
+abbrev pub Alike : Program → ℕ → Table → List UnitRow → List Bool → List OwnedMember → Type 0
 Alike p d t [] bs [] = Unit {0}
 Alike p d t (r ∷ rs) (b ∷ bs) (w ∷ ws) =
     (r.row.object ≡ w.object) × (length (body_of_row p d w) ≡ count (has_body t b r.member)) × Alike p d t rs bs ws
 Alike p d t _ _ _ = ⊥
 
-alike : (p : Program) (d : ℕ) (t : Table) (grouping : List Bool) (paths : List (List Units)) (rows : List UnitRow) (ws : List OwnedMember) →
+pub alike : (p : Program) (d : ℕ) (t : Table) (grouping : List Bool) (paths : List (List Units)) (rows : List UnitRow) (ws : List OwnedMember) →
     RowsSay p d t paths rows ws → grouping ≡ map is_filled paths → Alike p d t rows (insides grouping rows) ws
 alike p d t grouping paths [] [] s e = tt
 alike p d t grouping paths [] (w ∷ ws) s e = absurd s
@@ -64,26 +64,26 @@ counted_at p d t (r ∷ rs) (b ∷ bs) [] k w a e = absurd a
 
 -- ---- the members of one object
 
-abbrev own : ℕ → List OwnedMember → List OwnedMember
+abbrev pub own : ℕ → List OwnedMember → List OwnedMember
 own o ws = filter (λ (w : OwnedMember). nat_eq w.object o) ws
 
 -- members have a body where this says so of their numbers
 abbrev Counts : Program → ℕ → (ℕ → Bool) → List OwnedMember → Type 0
 Counts p d has all = (k : ℕ) (w : OwnedMember) → slice_get all k ≡ Some w → length (body_of_row p d w) ≡ count (has k)
 
-abbrev SameObjects : List UnitRow → List OwnedMember → Type 0
+abbrev pub SameObjects : List UnitRow → List OwnedMember → Type 0
 SameObjects [] [] = Unit {0}
 SameObjects (r ∷ rs) (w ∷ ws) = (r.row.object ≡ w.object) × SameObjects rs ws
 SameObjects _ _ = ⊥
 
-same_objects : (p : Program) (d : ℕ) (t : Table) (rs : List UnitRow) (bs : List Bool) (ws : List OwnedMember) → Alike p d t rs bs ws → SameObjects rs ws
+pub same_objects : (p : Program) (d : ℕ) (t : Table) (rs : List UnitRow) (bs : List Bool) (ws : List OwnedMember) → Alike p d t rs bs ws → SameObjects rs ws
 same_objects p d t [] bs [] a = tt
 same_objects p d t (r ∷ rs) (b ∷ bs) (w ∷ ws) a = (a.0, same_objects p d t rs bs ws a.2)
 same_objects p d t [] bs (w ∷ ws) a = absurd a
 same_objects p d t (r ∷ rs) [] ws a = absurd a
 same_objects p d t (r ∷ rs) (b ∷ bs) [] a = absurd a
 
-at_front : (front ws : List OwnedMember) (w : OwnedMember) → slice_get (front ++ w ∷ ws) (length front) ≡ Some w
+pub at_front : (front ws : List OwnedMember) (w : OwnedMember) → slice_get (front ++ w ∷ ws) (length front) ≡ Some w
 at_front [] ws w = refl
 at_front (x ∷ front) ws w = at_front front ws w
 
@@ -91,15 +91,15 @@ longer : (b : Bool) (k n m : ℕ) (bodies : List ℕ) → m ≡ count b → leng
 longer true k n m bodies e = length-append bodies (k ∷ []) ∙ ap (λ z. length bodies + z) (sym e)
 longer false k n m bodies e = let none : m ≡ 0 = e in omega (arith, none)
 
-abbrev chosen : {A : Type 0} → Bool → A → List A → List A
+abbrev pub chosen : {A : Type 0} → Bool → A → List A → List A
 chosen true x xs = x ∷ xs
 chosen false x xs = xs
 
-if_chosen : {A : Type 0} (b : Bool) (x : A) (xs : List A) → (if b then x ∷ xs else xs) ≡ chosen b x xs
+pub if_chosen : {A : Type 0} (b : Bool) (x : A) (xs : List A) → (if b then x ∷ xs else xs) ≡ chosen b x xs
 if_chosen true x xs = refl
 if_chosen false x xs = refl
 
-cond_chosen : {A : Type 0} (b : Bool) (x : A) (xs : List A) → cond b (x ∷ xs) xs ≡ chosen b x xs
+pub cond_chosen : {A : Type 0} (b : Bool) (x : A) (xs : List A) → cond b (x ∷ xs) xs ≡ chosen b x xs
 cond_chosen true x xs = refl
 cond_chosen false x xs = refl
 
@@ -175,7 +175,7 @@ numbered_append p d m (x ∷ xs) ys =
     ∙ ap (λ k. numbered_from p d (m + length (body_of_row p d x)) xs ++ numbered_from p d k ys) (omega arith))
 
 -- the members of so many objects from one on
-abbrev owned : ℕ → ℕ → List OwnedMember → List OwnedMember
+abbrev pub owned : ℕ → ℕ → List OwnedMember → List OwnedMember
 owned o zero ws = []
 owned o (suc n) ws = own o ws ++ owned (suc o) n ws
 
@@ -192,10 +192,10 @@ own_members o (w ∷ ws) =
     ∙ ap (λ z. map (row o) z ++ own o ws) (sym (append-nil (kept o w)))
     ∙ row_same o (nat_eq w.object o) w (own o ws) refl
 
-abbrev HaveMembers : ℕ → List WrittenObject → List OwnedMember → Type 0
+abbrev pub HaveMembers : ℕ → List WrittenObject → List OwnedMember → Type 0
 HaveMembers o os ws = (j : ℕ) (x : WrittenObject) → slice_get os j ≡ Some x → x.members ≡ members_of_object (o + j) ws
 
-rows_owned : (o : ℕ) (os : List WrittenObject) (ws : List OwnedMember) → HaveMembers o os ws → rows_by_object o os ≡ owned o (length os) ws
+pub rows_owned : (o : ℕ) (os : List WrittenObject) (ws : List OwnedMember) → HaveMembers o os ws → rows_by_object o os ≡ owned o (length os) ws
 rows_owned o [] ws h = refl
 rows_owned o (x ∷ os) ws h =
     ap (λ z. map (row o) z ++ rows_by_object (suc o) os) (h 0 x refl ∙ ap (λ k. members_of_object k ws) (omega arith))

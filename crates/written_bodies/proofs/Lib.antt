@@ -1,0 +1,3 @@
+pub mod ParameterLemmas
+pub mod MemberLemmas
+pub mod ProgramLemmas
