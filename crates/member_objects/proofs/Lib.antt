@@ -1,0 +1,3 @@
+mod CountLemmas
+mod EntryLemmas
+pub mod ObjectLemmas
