@@ -50,6 +50,7 @@ fn local_shown(local: &Local) -> Shown
         Local::Scope => Shown::Other,
         Local::Dead(_) => Shown::Other,
         Local::Alive(_, _, value) => value_shown(value),
+        Local::Given(_, _, value) => value_shown(value),
     }
 }
 

@@ -16,7 +16,7 @@ use Rattle.js_locals.proofs.NodeLemmas.{expr_item, step_item}
 use Rattle.js_locals.proofs.RowLemmas.{first_is, rest_is}
 use Rattle.js_frames.specs.Meant.{bound_of}
 use Rattle.js_frames.specs.Moves.{ends_steps}
-use Rattle.js_frames.specs.Spots.{is_bound, is_steps, is_named, is_member, is_function, single_function, BoundAt}
+use Rattle.js_frames.specs.Spots.{is_steps, is_named, is_member, function_place, single_function, BoundAt}
 use Rattle.js_frames.proofs.BeginLemmas.{Named, a_name_is, no_name_is, named_or_not}
 
 -- ---- the last step
@@ -31,11 +31,11 @@ goes_further c q r n h e b =
 
 -- ---- a `Qt.binding` that is assigned
 
-pub nothing_bound : (c : Laid) (q : ℕ) → c.rest q ≡ [] → false ≡ is_bound (bound_of (c.rest q))
-nothing_bound c q h = sym (ap (λ z. is_bound (bound_of z)) h)
+pub nothing_bound : (c : Laid) (q : ℕ) → c.rest q ≡ [] → None ≡ bound_of (c.rest q)
+nothing_bound c q h = sym (ap (λ z. bound_of z) h)
 
-pub bound_behind : (c : Laid) (q r : ℕ) (b : 𝔹) → c.rest q ≡ c.item r ∷ c.rest r → BoundAt c r b → b ≡ is_bound (bound_of (c.rest q))
-bound_behind c q r b h k = k.bound (c.rest r) ∙ sym (ap (λ z. is_bound (bound_of z)) h)
+pub bound_behind : (c : Laid) (q r : ℕ) (b : Option Place) → c.rest q ≡ c.item r ∷ c.rest r → BoundAt c r b → b ≡ bound_of (c.rest q)
+bound_behind c q r b h k = k.bound (c.rest r) ∙ sym (ap (λ z. bound_of z) h)
 
 no_steps_link : (f : 𝔹) (o : _) (p : _) (ls : Links) → is_steps (last_link f o p ls) ≡ false
 no_steps_link f o p no_links = refl
@@ -45,7 +45,7 @@ no_steps_sign : (f : 𝔹) (g : _) (p : _) (ss : Signs) → is_steps (last_sign 
 no_steps_sign f g p no_signs = refl
 no_steps_sign f g p (a_sign q r ss) = no_steps_sign false q r ss
 
-plain_by : (i : Item) (is : List Item) → is_steps (node_of i) ≡ false → false ≡ is_bound (bound_of (i ∷ is))
+plain_by : (i : Item) (is : List Item) → is_steps (node_of i) ≡ false → None ≡ bound_of (i ∷ is)
 plain_by (of_expr (steps e i js)) is h = absurd (cc)
 plain_by (of_expr (name n r)) is h = refl
 plain_by (of_expr (number n r)) is h = refl
@@ -61,7 +61,7 @@ plain_by (of_expr (choose e d cs r)) is h = refl
 plain_by (of_expr (assign t g r ts v)) is h = refl
 plain_by _ is h = refl
 
-pub plain_unbound : (c : Laid) (at : ℕ) (n : Node) → n ≡ node_of (c.item at) → is_steps n ≡ false → BoundAt c at false
+pub plain_unbound : (c : Laid) (at : ℕ) (n : Node) → n ≡ node_of (c.item at) → is_steps n ≡ false → BoundAt c at None
 plain_unbound c at n e h = record { bound = λ is. plain_by (c.item at) is (sym (ap (λ z. is_steps z) e) ∙ h) }
 
 -- ---- by the nodes of steps
@@ -82,7 +82,7 @@ name_told e (binding q ss) (a_name_is n p) = and_false (same_units n (codes "Qt"
 name_told e i (no_name_is f n) =
     ap (λ o. is_binding o i) n ∙ sym (ap (λ z. z && is_member (node_of (of_step i))) (no_named (node_of (of_expr e)) f))
 
-single_is : (is : Steps) → is_bound (place_of_function is) ≡ single_function (steps_parts is)
+single_is : (is : Steps) → place_of_function is ≡ single_function (steps_parts is)
 single_is no_steps = refl
 single_is (a_step (binding p ss) no_steps) = refl
 single_is (a_step (binding p ss) (a_step i js)) = refl
@@ -90,7 +90,7 @@ single_is (a_step (member n p) js) = refl
 single_is (a_step (element p e) js) = refl
 single_is (a_step (call p es) js) = refl
 
-bound_if : (b : 𝔹) (is : Steps) → is_bound (if b then place_of_function is else None) ≡ (b && single_function (steps_parts is))
+bound_if : (b : 𝔹) (is : Steps) → (if b then place_of_function is else None) ≡ (if b then single_function (steps_parts is) else None)
 bound_if true is = single_is is
 bound_if false is = refl
 
@@ -104,8 +104,8 @@ steps_are_expr : (n : Node) → is_steps n ≡ true → is_expr_node n ≡ true
 steps_are_expr node.Steps h = refl
 steps_are_expr _ h = absurd (cc)
 
-pub steps_bound : (c : Laid) (at q s : ℕ) (n m k : Node) (b : 𝔹) → k ≡ node_of (c.item at) → is_steps k ≡ true → parts_of (c.item at) ≡ c.item q ∷ c.rest q → c.rest q ≡ c.item s ∷ c.rest s
-    → n ≡ node_of (c.item q) → m ≡ node_of (c.item s) → b ≡ single_function (c.rest s) → BoundAt c at ((is_named n && is_member m) && b)
+pub steps_bound : (c : Laid) (at q s : ℕ) (n m k : Node) (b : Option Place) → k ≡ node_of (c.item at) → is_steps k ≡ true → parts_of (c.item at) ≡ c.item q ∷ c.rest q → c.rest q ≡ c.item s ∷ c.rest s
+    → n ≡ node_of (c.item q) → m ≡ node_of (c.item s) → b ≡ single_function (c.rest s) → BoundAt c at (if is_named n && is_member m then b else None)
 steps_bound c at q s n m k b ke ks pe re ne me be =
     let x : (e : Expr) × (c.item at ≡ of_expr e) = expr_item k (c.item at) ke (steps_are_expr k ks) in
     let y : (d : Expr) × (i : Step) × (is : Steps) × (x.0 ≡ steps d i is) = steps_expr x.0 (ap (λ j. is_steps (node_of j)) (sym x.1) ∙ ap (λ z. is_steps z) (sym ke) ∙ ks) in
@@ -118,51 +118,51 @@ steps_bound c at q s n m k b ke ks pe re ne me be =
     let rest : of_step i ∷ steps_parts is ≡ c.item s ∷ c.rest s = sym (rest_is (of_expr d) (c.item q) (of_step i ∷ steps_parts is) (c.rest q) parts) ∙ re in
     let se : c.item s ≡ of_step i = first_is (of_step i) (c.item s) (steps_parts is) (c.rest s) rest in
     let te : c.rest s ≡ steps_parts is = rest_is (of_step i) (c.item s) (steps_parts is) (c.rest s) rest in
-    let go : Node → Node → 𝔹 → 𝔹 = λ u v z. (is_named u && is_member v) && z in
-    let told : go n m b ≡ is_bound (bound_in (steps d i is)) =
+    let go : Node → Node → Option Place → Option Place = λ u v z. if is_named u && is_member v then z else None in
+    let told : go n m b ≡ bound_in (steps d i is) =
     ap (λ z. go z m b) ne ∙ ap (λ j. go (node_of j) m b) qe ∙ ap (λ z. go (node_of (of_expr d)) z b) me ∙ ap (λ j. go (node_of (of_expr d)) (node_of j) b) se
     ∙ ap (λ z. go (node_of (of_expr d)) (node_of (of_step i)) z) (be ∙ ap (λ z. single_function z) te)
-    ∙ ap (λ z. z && single_function (steps_parts is)) (sym (name_told d i (named_or_not d)))
+    ∙ ap (λ (z : 𝔹). if z then single_function (steps_parts is) else None) (sym (name_told d i (named_or_not d)))
     ∙ sym (bound_if (is_binding (name_in d) i) is) in
-    record { bound = λ js. told ∙ sym (ap (λ j. is_bound (bound_of (j ∷ js))) ie) }
+    record { bound = λ js. told ∙ sym (ap (λ j. bound_of (j ∷ js)) ie) }
 
 -- ---- one function, and nothing behind it
 
-pub single_none : (c : Laid) (s : ℕ) → c.rest s ≡ [] → false ≡ single_function (c.rest s)
+pub single_none : (c : Laid) (s : ℕ) → c.rest s ≡ [] → None ≡ single_function (c.rest s)
 single_none c s h = sym (ap (λ z. single_function z) h)
 
-other_single : (i : Item) (is : List Item) → is_function (node_of i) ≡ false → false ≡ single_function (i ∷ is)
+other_single : (i : Item) (is : List Item) → function_place (node_of i) ≡ None → None ≡ single_function (i ∷ is)
 other_single (of_step (binding p ss)) is h = absurd (cc)
 other_single (of_step (member n p)) is h = refl
 other_single (of_step (element p e)) is h = refl
 other_single (of_step (call p es)) is h = refl
 other_single _ is h = refl
 
-pub single_other : (c : Laid) (s b : ℕ) (n : Node) → c.rest s ≡ c.item b ∷ c.rest b → n ≡ node_of (c.item b) → is_function n ≡ false → false ≡ single_function (c.rest s)
-single_other c s b n h e f = other_single (c.item b) (c.rest b) (sym (ap (λ z. is_function z) e) ∙ f) ∙ sym (ap (λ z. single_function z) h)
+pub single_other : (c : Laid) (s b : ℕ) (n : Node) → c.rest s ≡ c.item b ∷ c.rest b → n ≡ node_of (c.item b) → function_place n ≡ None → None ≡ single_function (c.rest s)
+single_other c s b n h e f = other_single (c.item b) (c.rest b) (sym (ap (λ z. function_place z) e) ∙ f) ∙ sym (ap (λ z. single_function z) h)
 
-more_single : (i j : Item) (is : List Item) → false ≡ single_function (i ∷ j ∷ is)
+more_single : (i j : Item) (is : List Item) → None ≡ single_function (i ∷ j ∷ is)
 more_single (of_step (binding p ss)) j is = refl
 more_single (of_step (member n p)) j is = refl
 more_single (of_step (element p e)) j is = refl
 more_single (of_step (call p es)) j is = refl
 more_single _ j is = refl
 
-pub single_more : (c : Laid) (s b r : ℕ) → c.rest s ≡ c.item b ∷ c.rest b → c.rest b ≡ c.item r ∷ c.rest r → false ≡ single_function (c.rest s)
+pub single_more : (c : Laid) (s b r : ℕ) → c.rest s ≡ c.item b ∷ c.rest b → c.rest b ≡ c.item r ∷ c.rest r → None ≡ single_function (c.rest s)
 single_more c s b r h e = more_single (c.item b) (c.item r) (c.rest r) ∙ sym (ap (λ z. single_function (c.item b ∷ z)) e) ∙ sym (ap (λ z. single_function z) h)
 
-function_step : (d : Step) → is_function (node_of (of_step d)) ≡ true → true ≡ single_function (of_step d ∷ [])
-function_step (binding p ss) h = refl
-function_step (member n p) h = absurd (cc)
-function_step (element p e) h = absurd (cc)
-function_step (call p es) h = absurd (cc)
+function_step : (d : Step) (p : Place) → function_place (node_of (of_step d)) ≡ Some p → Some p ≡ single_function (of_step d ∷ [])
+function_step (binding q ss) p h = sym h
+function_step (member n q) p h = absurd (cc)
+function_step (element q e) p h = absurd (cc)
+function_step (call q es) p h = absurd (cc)
 
-function_is_step : (n : Node) → is_function n ≡ true → is_step_node n ≡ true
-function_is_step (node.Binding p) h = refl
-function_is_step _ h = absurd (cc)
+function_is_step : (n : Node) (p : Place) → function_place n ≡ Some p → is_step_node n ≡ true
+function_is_step (node.Binding q) p h = refl
+function_is_step _ p h = absurd (cc)
 
-pub single_last : (c : Laid) (s b : ℕ) (n : Node) → c.rest s ≡ c.item b ∷ c.rest b → n ≡ node_of (c.item b) → is_function n ≡ true → c.rest b ≡ [] → true ≡ single_function (c.rest s)
-single_last c s b n h e f g =
-    let x : (d : Step) × (c.item b ≡ of_step d) = step_item n (c.item b) e (function_is_step n f) in
-    function_step x.0 (ap (λ j. is_function (node_of j)) (sym x.1) ∙ sym (ap (λ z. is_function z) e) ∙ f)
+pub single_last : (c : Laid) (s b : ℕ) (n : Node) (p : Place) → c.rest s ≡ c.item b ∷ c.rest b → n ≡ node_of (c.item b) → function_place n ≡ Some p → c.rest b ≡ [] → Some p ≡ single_function (c.rest s)
+single_last c s b n p h e f g =
+    let x : (d : Step) × (c.item b ≡ of_step d) = step_item n (c.item b) e (function_is_step n p f) in
+    function_step x.0 p (ap (λ j. function_place (node_of j)) (sym x.1) ∙ sym (ap (λ z. function_place z) e) ∙ f)
     ∙ sym (ap (λ j. single_function (j ∷ [])) x.1) ∙ sym (ap (λ z. single_function (c.item b ∷ z)) g) ∙ sym (ap (λ z. single_function z) h)

@@ -14,7 +14,8 @@ use Rattle.qml_value.specs.declared.value.Value.{Value}
 use Rattle.evaluation.specs.declared.came.Came.TheVariants as came
 use Rattle.evaluation.specs.declared.came.Evaluated.{Evaluated}
 use Rattle.evaluation.specs.declared.came.Evaluated.TheVariants as answer
-use Rattle.evaluation.specs.Hearing.{Heard, heard, Answers, comes}
+use Rattle.evaluation.specs.Hearing.{Heard, heard, Answers}
+use Rattle.evaluation.specs.Ask.{Ask}
 use Rattle.js_meaning.specs.Eval.{Code, asks_whole}
 use Rattle.js_frames.specs.declared.frames.Frame.{Frame}
 use Rattle.js_frames.specs.declared.frames.Here.{Here}
@@ -25,14 +26,16 @@ use Rattle.js_frames.specs.declared.frames.Next.TheVariants as next
 use Rattle.js_locals.specs.declared.locals.Local.{Local}
 use Rattle.js_locals.specs.Laid.{Laid, laid}
 use Rattle.js_frames.specs.Standing.{Standing, with_frame}
-use Rattle.js_frames.specs.Meant.{World, told, after, outcome_of}
+use Rattle.js_frames.specs.Telling.{Telling, comes, needs, Told, finished}
+use Rattle.js_frames.specs.Meant.{quiet, World, told, hears, after, outcome_of}
 use Rattle.js_frames.specs.Moves.{BeginsCounted, Resumes, Steps, Args}
 use Rattle.js_frames.specs.Moves as m
 use Rattle.js_frames.specs.declared.frames.Spot.{Spot}
 use Rattle.js_frames.specs.Spots.{TargetsAt, SpotAt, FoundFor, Assigns}
 use Rattle.js_frames.proofs.SpotLemmas.{targets_on, spot_at_on, found_for_on, assigns_on}
 use Rattle.js_frames.specs.Statements.{RunsAt, Rests, Declares, Takes}
-use Rattle.js_frames.specs.Stepping.{GoesAt, where_of, Goes, IsOutcome, Starts, EndsAs}
+use Rattle.js_frames.specs.Stepping.{GoesAt, where_of, Goes, IsOutcome, Starts, Ends, EndsAs}
+use Rattle.js_frames.proofs.TellingLemmas.{told_to_its_end}
 use Rattle.js_frames.proofs.ToldLemmas.{stopped}
 use Rattle.js_frames.proofs.BeginLemmas.{begun_on}
 use Rattle.js_frames.proofs.StepLemmas.{resumed_on, steps_on, signs_on}
@@ -106,7 +109,7 @@ goes_nowhere w code tables h old z = record { same = λ o. refl }
 
 -- ---- what is answered
 
-pub answered : (h : Heard) (old new : List CellNo) (o : Evaluated) → record { outcome = outcome_of o; reads = new } ≡ after old h → Answers h old new o
+pub answered : (h : Told) (old new : List CellNo) (o : Evaluated) → record { outcome = outcome_of o; reads = new } ≡ after old h → Ends h old new o
 answered h old new (answer.Value v) e = (sym (ap (λ z. z.outcome) e), ap (λ z. z.reads) e)
 answered h old new (answer.Threw q) e = (sym (ap (λ z. z.outcome) e), ap (λ z. z.reads) e)
 answered h old new answer.Loop e = (sym (ap (λ z. z.outcome) e), ap (λ z. z.reads) e)
@@ -133,10 +136,20 @@ ends_as w code tables h g ls z rs new y answer.Past b k = ends_by w code tables 
 ends_as w code tables h g ls z rs new y (answer.Need q) b k = ends_by w code tables h g ls z rs new (answer.Need q) (subst (λ (u : Next). Goes w code tables h g (begun_with rs ls) z new u) k b)
 ends_as w code tables h g ls z rs new y answer.NoMemory b k = no_answer w code tables h ls z rs new.reads
 
+-- what is heard, by what is told
+heard_by : (w : World) (t : Told) (h : Heard) (old new : List CellNo) (o : Evaluated) → h ≡ finished w.names w.view t.reads t.outcome → Ends t old new o → Answers h old new o
+heard_by w t h old new (answer.Value v) e d = let k : h ≡ finished w.names w.view t.reads (comes (came.Value v)) = e ∙ ap (finished w.names w.view t.reads) d.0 in (ap (λ z. z.outcome) k, d.1 ∙ ap (λ z. old ++ z.reads) (sym k))
+heard_by w t h old new (answer.Threw q) e d = let k : h ≡ finished w.names w.view t.reads (comes (came.Threw q)) = e ∙ ap (finished w.names w.view t.reads) d.0 in (ap (λ z. z.outcome) k, d.1 ∙ ap (λ z. old ++ z.reads) (sym k))
+heard_by w t h old new answer.Loop e d = let k : h ≡ finished w.names w.view t.reads (comes came.Loop) = e ∙ ap (finished w.names w.view t.reads) d.0 in (ap (λ z. z.outcome) k, d.1 ∙ ap (λ z. old ++ z.reads) (sym k))
+heard_by w t h old new answer.Past e d = let k : h ≡ finished w.names w.view t.reads (comes came.Past) = e ∙ ap (finished w.names w.view t.reads) d.0 in (ap (λ z. z.outcome) k, d.1 ∙ ap (λ z. old ++ z.reads) (sym k))
+heard_by w t h old new (answer.Need q) e d = let k : h ≡ finished w.names w.view t.reads (needs q) = e ∙ ap (finished w.names w.view t.reads) d.0 in (ap (λ z. z.outcome) k, d.1 ∙ ap (λ z. old ++ z.reads) (sym k))
+heard_by w t h old new answer.NoMemory e d = tt
+
 -- a whole evaluation
 pub evaluates : (w : World) (code : Code) (tables : ExprNo → Table) (h : Here) (t : Table) (at : ℕ) (ls : List Local) (z : Next) (rs new : List CellNo) (o : Evaluated) (whole : Whole)
     → t ≡ tables h.text → StandsAs whole (part_at (tables h.text) at) → h.calls ≡ 100 → Starts (laid t) at ls z → EndsAs w code tables h ls z rs new o
     → Answers (heard w.names w.view (asks_whole code h.home h.text whole)) rs new o
 evaluates w code tables h t at ls z rs new o whole e p n s d =
-    d.ends h.home.author (heard w.names w.view (asks_whole code h.home h.text whole))
-    ((subst (λ (u : Table). Starts (laid u) at ls z) e s).heard_as w rs (where_of code tables h.home.author h) whole p n refl)
+    let ask : Ask = asks_whole code h.home h.text whole in
+    heard_by w (hears w ask) (heard w.names w.view ask) rs new o (told_to_its_end w.names w.view ask)
+    (d.ends h.home.author (hears w ask) ((subst (λ (u : Table). Starts (laid u) at ls z) e s).told_as w rs (where_of code tables (quiet h.home.author) h) whole p n refl))

@@ -24,6 +24,7 @@ use Rattle.js_frames.specs.declared.frames.Frame.TheVariants as frame
 use Rattle.js_frames.specs.declared.frames.Next.{Next}
 use Rattle.js_frames.specs.declared.frames.Next.TheVariants as next
 use Rattle.js_frames.specs.declared.frames.Callee.TheVariants as calls
+use Rattle.js_frames.specs.declared.frames.Deed.TheVariants as deed
 use Rattle.js_frames.specs.declared.frames.Purpose.{Purpose}
 use Rattle.js_frames.specs.declared.frames.Purpose.TheVariants as purpose
 use Rattle.js_frames.specs.declared.frames.To.{To}
@@ -106,7 +107,7 @@ element_on w c x t v (Component o) old new y h = no_index_on w c x v old new y h
 
 -- ---- rows
 
-part_on : (w : World) (c : Laid) (x : Where) (t : To) (n : List ℕ) (cell : CellNo) (v : Value) (old new : Standing) (y : Next)
+pub part_on : (w : World) (c : Laid) (x : Where) (t : To) (n : List ℕ) (cell : CellNo) (v : Value) (old new : Standing) (y : Next)
     → PartGives w t n cell v old new y → told w c x new y ≡ on w old (hidden_part v cell n (state_of c old) (goal_of c x t old))
 part_on w c x t n cell (Num z) old new y h =
     ap (λ m. told w c x m y) h.0 ∙ ap (λ k. told w c x (with_read cell old) k) h.1 ∙ part_seen_as w c x old t n z cell (w.view cell)
@@ -116,16 +117,16 @@ pub finished_on : (w : World) (c : Laid) (x : Where) (what : Purpose) (vs : List
     → Finishes w c what vs old new y → told w c x new y ≡ on w old (all_then c (around_at x) what vs (state_of c old) (aim_in c x old.frames))
 finished_on w c x purpose.List vs old new y h = turned w c x (next_of (weighed (list_value vs))) old new y h ∙ told_next w c x old (weighed (list_value vs))
 finished_on w c x (purpose.Call (calls.Body e o) q) vs old new y h = turned w c x (next.Enter e o vs q) old new y h
-finished_on w c x (purpose.Call (calls.Signal o i) q) vs old new y h = threw_on w c x cause.Call old new y h
-finished_on w c x (purpose.Call (calls.Reading o k p) q) vs old new y h = part_on w c x (to.Step q) (name_of c p) k (at_place vs 0) old new y h
-finished_on w c x (purpose.Call (calls.Doing o p) q) vs old new y h = threw_on w c x cause.Call old new y h
+finished_on w c x (purpose.Call (calls.Signal o i) q) vs old new y h = turned w c x (next.Deed (deed.Emit o i vs q)) old new y h
+finished_on w c x (purpose.Call (calls.Reading o k p) q) vs old new y h = turned w c x (next.Deed (deed.Read o k p vs q)) old new y h
+finished_on w c x (purpose.Call (calls.Doing o p) q) vs old new y h = turned w c x (next.Deed (deed.Do o p vs q)) old new y h
 finished_on w c x (purpose.Call (calls.Method v p) q) vs old new y h =
     turned w c x (arrive_ended (to.Step q) (method_of v (name_of c p) vs)) old new y h ∙ told_ended w c x old (to.Step q) (method_of v (name_of c p) vs)
 finished_on w c x (purpose.Call (calls.Math p) q) vs old new y h =
     turned w c x (arrive_ended (to.Step q) (math_method (name_of c p) vs)) old new y h ∙ told_ended w c x old (to.Step q) (math_method (name_of c p) vs)
 finished_on w c x (purpose.Call calls.Text q) vs old new y h =
     turned w c x (arrive_ended (to.Step q) (text_from vs)) old new y h ∙ told_ended w c x old (to.Step q) (text_from vs)
-finished_on w c x (purpose.Call calls.Log q) vs old new y h = threw_on w c x cause.Call old new y h
+finished_on w c x (purpose.Call calls.Log q) vs old new y h = turned w c x (next.Deed (deed.Log vs q)) old new y h
 finished_on w c x (purpose.Call calls.Binding q) vs old new y h = threw_on w c x cause.Kind old new y h
 finished_on w c x (purpose.Call calls.Nothing q) vs old new y h = threw_on w c x cause.Call old new y h
 

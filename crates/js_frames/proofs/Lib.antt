@@ -1,3 +1,4 @@
+pub mod TellingLemmas
 pub mod ToldLemmas
 pub mod GoesLemmas
 pub mod BeginLemmas
@@ -7,5 +8,6 @@ pub mod StatementLemmas
 pub mod BoundLemmas
 pub mod SpotLemmas
 pub mod CallLemmas
+pub mod RefuseLemmas
 pub mod StartLemmas
 pub mod EndLemmas

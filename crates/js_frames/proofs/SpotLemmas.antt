@@ -17,15 +17,16 @@ use Rattle.evaluation.specs.declared.came.Came.TheVariants as came
 use Rattle.evaluation.specs.declared.came.Ended.{Ended}
 use Rattle.evaluation.specs.declared.came.Ended.TheVariants as by
 use Rattle.evaluation.specs.declared.came.Evaluated.TheVariants as answer
-use Rattle.evaluation.specs.Hearing.{comes}
+use Rattle.evaluation.specs.declared.effect.Effect.TheVariants as effect
 use Rattle.evaluation.specs.Ask.{Ask, finds}
 use Rattle.js_meaning.specs.Operate.{bounded, on_num, operate}
 use Rattle.js_meaning.specs.Locals.{State, Scope, Held, dead, alive, local}
 use Rattle.js_meaning.specs.Going.{Then, Around, throws, counted, given}
 use Rattle.js_meaning.specs.Looking.{local_or, name_in}
 use Rattle.js_meaning.specs.Calling.{Before}
-use Rattle.js_meaning.specs.Assigning.{Spot, at_local, at_name, operator_of, name_spot, spot_value, written, written_local, updated, assigned_to}
+use Rattle.js_meaning.specs.Assigning.{Spot, at_local, at_name, at_member, at_element, operator_of, name_spot, spot_value, written, written_local, written_outside, rebound, updated, assigned_to}
 use Rattle.js_meaning.specs.Eval.{eval, eval_spot, first_before}
+use Rattle.js_frames.specs.declared.frames.Deed.TheVariants as deed
 use Rattle.js_frames.specs.declared.frames.Frame.{Frame}
 use Rattle.js_frames.specs.declared.frames.Frame.TheVariants as frame
 use Rattle.js_frames.specs.declared.frames.Next.{Next}
@@ -38,9 +39,10 @@ use Rattle.js_locals.specs.Scopes.{scopes_of}
 use Rattle.js_locals.specs.Laid.{Laid, assignment_in, is_expr_node, is_target, name_of, name_at, steps_in}
 use Rattle.js_frames.specs.Awaiting.{awaits_spot}
 use Rattle.js_frames.specs.Standing.{Standing, with_frame, with_locals, without_node, state_of, kept}
+use Rattle.js_frames.specs.Telling.{comes}
 use Rattle.js_frames.specs.Meant.{Where, World, Aim, around_at, aim_in, spot_of, steps_by, bound_of, targets_then, operator_at, chosen_by, then_of, spot_in, told}
 use Rattle.js_frames.specs.Moves.{Turns, threw, OrElse, local_in}
-use Rattle.js_frames.specs.Spots.{TargetsBy, TargetsAt, local_spot, NameSpot, StepsSpot, SpotBegins, SpotAt, SpotGives, Rebinds, RightBegins, FoundBy, is_bound, FoundFor, SpotWrites, Stores, updated_by, Assigns}
+use Rattle.js_frames.specs.Spots.{TargetsBy, TargetsAt, local_spot, NameSpot, StepsSpot, SpotBegins, SpotAt, SpotGives, Rebinds, RightBegins, FoundBy, FoundFor, SpotWrites, Stores, updated_by, Assigns}
 use Rattle.js_frames.proofs.ToldLemmas.{on, turned, threw_on, state, stopped, counted_none, counted_some}
 use Rattle.js_frames.proofs.GoesLemmas.{name_on, found_on, member_of_on, element_on}
 use Rattle.js_frames.proofs.BeginLemmas.{steps_begin, first_of_steps, named_or_not, steps_are}
@@ -167,27 +169,6 @@ spot_gives_on w c x (spot.Element v i) old new y h = element_on w c x to.Back v 
 
 -- ---- a spot that is found
 
-abbrev thrice : List Scope → ℕ → Ask
-thrice xs n = counted (state xs n) (λ s. counted s (λ s. counted s (λ s. throws cause.Call)))
-
-thrice_none : (xs : List Scope) (n : ℕ) → n < 3 → thrice xs n ≡ throws cause.Nodes
-thrice_none xs zero h = refl
-thrice_none xs (suc zero) h = refl
-thrice_none xs (suc (suc zero)) h = refl
-thrice_none xs (suc (suc (suc n))) h = absurd (omega (arith, h))
-
-thrice_some : (xs : List Scope) (n : ℕ) → 3 ≤ n → thrice xs n ≡ throws cause.Call
-thrice_some xs n h =
-    counted_some xs n (λ s. counted s (λ s. counted s (λ s. throws cause.Call))) (omega (arith, h))
-    ∙ counted_some xs (n - 1) (λ s. counted s (λ s. throws cause.Call)) (omega (arith, h))
-    ∙ counted_some xs (n - 1 - 1) (λ s. throws cause.Call) (omega (arith, h))
-
-rebinds_on : (w : World) (c : Laid) (x : Where) (old new : Standing) (y : Next) → Rebinds old new y → told w c x new y ≡ on w old (thrice (scopes_of c old.locals) old.left)
-rebinds_on w c x old new y h = elim h [
-  | inl l ↦ threw_on w c x cause.Nodes old new y l.1 ∙ ap (λ z. on w old z) (sym (thrice_none (scopes_of c old.locals) old.left l.0))
-  | inr r ↦ threw_on w c x cause.Call old new y r.1 ∙ ap (λ z. on w old z) (sym (thrice_some (scopes_of c old.locals) old.left r.0))
-]
-
 -- what is done with the value of the right side
 abbrev then_updated : Laid → Where → List Frame → Option Operator → Value → code_spot.Spot → Then
 then_updated c x fs o was there r t = updated o was r t (λ u z. written (around_at x) (spot_of c there) u z (then_of c x fs))
@@ -198,13 +179,15 @@ right_begins_on w c x o v there q old new y h =
     ap (λ m. told w c x m y) h.2 ∙ ap (λ z. told w c x (with_frame (frame.Assigned o v there) old) z) h.3
     ∙ ap (λ is. on w old (targets_then (around_at x) is (state_of c old) (then_updated c x old.frames o v there))) (sym h.1)
 
+rebinds_on : (w : World) (c : Laid) (x : Where) (there : code_spot.Spot) (p : Place) (old new : Standing) (y : Next)
+    → Rebinds there p old new y → told w c x new y ≡ on w old (rebound (around_at x) p (spot_of c there) (state_of c old) (then_of c x old.frames))
+rebinds_on w c x there p old new y h =
+    ap (λ m. told w c x m y) h.0 ∙ ap (λ z. told w c x (with_frame (frame.Assigned None Undefined there) old) z) h.1
+
 found_by : (w : World) (c : Laid) (x : Where) (o : Option Operator) (b : Option Place) (there : code_spot.Spot) (q : ℕ) (old new : Standing) (y : Next)
-    → operator_at c q ≡ o → FoundBy w c x.home o (is_bound b) there q old new y
+    → operator_at c q ≡ o → FoundBy w c x.home o b there q old new y
     → told w c x new y ≡ on w old (assigned_to (around_at x) o b (spot_of c there) (state_of c old) (λ t go. targets_then (around_at x) (c.rest q) t go) (then_of c x old.frames))
-found_by w c x None (Some p) (spot.Local z) q old new y e h = rebinds_on w c x old new y h
-found_by w c x None (Some p) (spot.Named z f) q old new y e h = rebinds_on w c x old new y h
-found_by w c x None (Some p) (spot.Member v z) q old new y e h = rebinds_on w c x old new y h
-found_by w c x None (Some p) (spot.Element v i) q old new y e h = rebinds_on w c x old new y h
+found_by w c x None (Some p) there q old new y e h = rebinds_on w c x there p old new y h
 found_by w c x None None there q old new y e h = right_begins_on w c x None Undefined there q old new y h
 found_by w c x (Some o) b there q old new y e h =
     spot_gives_on w c x there (with_frame (frame.Updated there q) old) new y h
@@ -224,22 +207,38 @@ same_written (Some dead) n v s g = refl
 same_written (Some (alive true k)) n v s g = refl
 same_written (Some (alive false k)) n v s g = refl
 
-spot_writes_on : (w : World) (c : Laid) (x : Where) (there : code_spot.Spot) (v : Value) (z : Next) (old new : Standing) (y : Next) (g : Then)
-    → ((ls : List Local) → told w c x (with_locals ls old) z ≡ on w old (g v (state (scopes_of c ls) old.left)))
-    → SpotWrites c there v z old new y → told w c x new y ≡ on w old (written (around_at x) (spot_of c there) v (state_of c old) g)
-spot_writes_on w c x (spot.Local p) v z old new y g f h =
-    written_on w c x (local (name_of c p) (scopes_of c old.locals)) (name_of c p) v z old new y (λ u. g v u) f h
-    ∙ ap (λ k. on w old k) (same_written (local (name_of c p) (scopes_of c old.locals)) (name_of c p) v (state_of c old) g)
-spot_writes_on w c x (spot.Named p d) v z old new y g f h = threw_on w c x cause.Call old new y h
-spot_writes_on w c x (spot.Member d p) v z old new y g f h = threw_on w c x cause.Call old new y h
-spot_writes_on w c x (spot.Element d i) v z old new y g f h = threw_on w c x cause.Call old new y h
+-- it is put outside, by the latest frame
+puts_on : (w : World) (c : Laid) (x : Where) (there : code_spot.Spot) (v back : Value) (old new : Standing) (y : Next)
+    → (new ≡ with_frame (frame.Assigned None back there) old) × (y ≡ next.Deed (deed.Write v))
+    → told w c x new y ≡ on w old (written_outside (around_at x) (spot_of c there) (λ z. effect.Write z v) v (state_of c old) (λ r u. then_of c x old.frames back u))
+puts_on w c x there v back old new y h =
+    ap (λ m. told w c x m y) h.0 ∙ ap (λ z. told w c x (with_frame (frame.Assigned None back there) old) z) h.1
 
-stores_on : (w : World) (c : Laid) (x : Where) (there : code_spot.Spot) (e : Ended) (back : Value → Value) (old new : Standing) (y : Next) (g : Value → Then)
-    → ((u : Value) (ls : List Local) → told w c x (with_locals ls old) (next.Back (back u)) ≡ on w old (g u u (state (scopes_of c ls) old.left)))
-    → Stores c there e back old new y → told w c x new y ≡ on w old (given e (state_of c old) (λ u t. written (around_at x) (spot_of c there) u t (g u)))
-stores_on w c x there (by.Value v) back old new y g f h = spot_writes_on w c x there v (next.Back (back v)) old new y (g v) (f v) h
-stores_on w c x there (by.Threw q) back old new y g f h = threw_on w c x q old new y h
-stores_on w c x there by.Past back old new y g f h = turned w c x (next.Ended answer.Past) old new y h ∙ stopped old.reads (comes came.Past)
+spot_writes_on : (w : World) (c : Laid) (x : Where) (there : code_spot.Spot) (v back : Value) (old new : Standing) (y : Next)
+    → SpotWrites c there v back old new y → told w c x new y ≡ on w old (written (around_at x) (spot_of c there) v (state_of c old) (λ r u. then_of c x old.frames back u))
+spot_writes_on w c x (spot.Local p) v back old new y h =
+    written_on w c x (local (name_of c p) (scopes_of c old.locals)) (name_of c p) v (next.Back back) old new y (λ u. then_of c x old.frames back u) (λ ls. refl) h
+spot_writes_on w c x (spot.Named p d) v back old new y h = puts_on w c x (spot.Named p d) v back old new y h
+spot_writes_on w c x (spot.Member d p) v back old new y h = puts_on w c x (spot.Member d p) v back old new y h
+spot_writes_on w c x (spot.Element d i) v back old new y h = puts_on w c x (spot.Element d i) v back old new y h
+
+stores_on : (w : World) (c : Laid) (x : Where) (there : code_spot.Spot) (e : Ended) (back : Value → Value) (old new : Standing) (y : Next)
+    → Stores c there e back old new y → told w c x new y ≡ on w old (given e (state_of c old) (λ u t. written (around_at x) (spot_of c there) u t (λ r z. then_of c x old.frames (back u) z)))
+stores_on w c x there (by.Value v) back old new y h = spot_writes_on w c x there v (back v) old new y h
+stores_on w c x there (by.Threw q) back old new y h = threw_on w c x q old new y h
+stores_on w c x there by.Past back old new y h = turned w c x (next.Ended answer.Past) old new y h ∙ stopped old.reads (comes came.Past)
+
+-- what is put in a spot is what goes on
+same_put : (a : Around) (there : Spot) (v : Value) (s : State) (g : Then) → written a there v s (λ r u. g v u) ≡ written a there v s g
+same_put a (at_local n) v s g = same_written (local n s.scopes) n v s g
+same_put a (at_name n f) v s g = refl
+same_put a (at_member d n) v s g = refl
+same_put a (at_element d i) v s g = refl
+
+same_stored : (a : Around) (there : Spot) (e : Ended) (s : State) (g : Then) → given e s (λ u t. written a there u t (λ r z. g u z)) ≡ given e s (λ u t. written a there u t g)
+same_stored a there (by.Value v) s g = same_put a there v s g
+same_stored a there (by.Threw q) s g = refl
+same_stored a there by.Past s g = refl
 
 updated_is : (o : Option Operator) (was v : Value) (s : State) (k : Then) → given (updated_by o was v) s k ≡ updated o was v s k
 updated_is None was v s k = refl
@@ -250,8 +249,9 @@ pub assigns_on : (w : World) (c : Laid) (x : Where) (f : Frame) (v : Value) (old
 assigns_on w c x (frame.At held) v old new y h = turned w c x (next.Found (spot.Element held v)) old new y h
 assigns_on w c x (frame.Updated there q) v old new y h = right_begins_on w c x (operator_at c q) v there q old new y h
 assigns_on w c x (frame.Assigned o was there) v old new y h =
-    stores_on w c x there (updated_by o was v) (λ u. u) old new y (λ u. then_of c x old.frames) (λ u ls. refl) h
+    stores_on w c x there (updated_by o was v) (λ u. u) old new y h
+    ∙ ap (λ z. on w old z) (same_stored (around_at x) (spot_of c there) (updated_by o was v) (state_of c old) (then_of c x old.frames))
     ∙ ap (λ z. on w old z) (updated_is o was v (state_of c old) (λ u t. written (around_at x) (spot_of c there) u t (then_of c x old.frames)))
 assigns_on w c x (frame.Bumped z g there) v old new y h =
-    stores_on w c x there (on_num (λ n. bounded (n +ℤ z)) v) (λ u. chosen_by g v u) old new y (λ u r t. then_of c x old.frames (chosen_by g v u) t) (λ u ls. refl) h
+    stores_on w c x there (on_num (λ n. bounded (n +ℤ z)) v) (λ u. chosen_by g v u) old new y h
 assigns_on w c x _ v old new y h = absurd h

@@ -1,5 +1,5 @@
 -- Each step, call, prefix and choice that goes on changes nothing of what is heard in all.
-use Rattle.std.proofs.Common.{◌≡◌, ◌∙◌, ap, sym, refl, subst, inl, inr, ◌⊎◌, ℕ, ℤ, ◌-◌, Bool as 𝔹, true, false, ◌&&◌, cond, if◌then◌else◌, List, [], ◌∷◌, ◌++◌, reverse, codes, Option, Some, None}
+use Rattle.std.proofs.Common.{◌≡◌, ◌∙◌, ap, sym, refl, subst, inl, inr, ◌⊎◌, ℕ, ℤ, ◌-◌, Bool as 𝔹, true, false, ◌&&◌, ◌||◌, cond, if◌then◌else◌, List, [], ◌∷◌, ◌++◌, reverse, codes, Option, Some, None}
 use Rattle.qml_base.specs.declared.numbers.Place.{Place}
 use Rattle.qml_base.specs.declared.numbers.ObjNo.{ObjNo}
 use Rattle.qml_base.specs.declared.numbers.CellNo.{CellNo}
@@ -33,6 +33,7 @@ use Rattle.js_frames.specs.declared.frames.Before as code_before
 use Rattle.js_frames.specs.declared.frames.Before.TheVariants as stands
 use Rattle.js_frames.specs.declared.frames.Callee as code_callee
 use Rattle.js_frames.specs.declared.frames.Callee.TheVariants as calls
+use Rattle.js_frames.specs.declared.frames.Deed.TheVariants as deed
 use Rattle.js_frames.specs.declared.frames.Purpose.TheVariants as purpose
 use Rattle.js_frames.specs.declared.frames.To.{To}
 use Rattle.js_frames.specs.declared.frames.To.TheVariants as to
@@ -213,15 +214,18 @@ named_callee_on w c x p q (found.Object o) old new y h = called_on w c x calls.N
 named_callee_on w c x p q (found.Component o) old new y h = called_on w c x calls.Nothing q old new y h
 named_callee_on w c x p q (found.Script u) old new y h = called_on w c x calls.Nothing q old new y h
 
+-- a document's function is reached where it may be, or effects are done
+abbrev may_reach : Where → 𝔹 → (𝔹 → Ask) → Ask
+may_reach x b go = go (x.doer.acts || b)
+
 told_may : (w : World) (c : Laid) (x : Where) (q : ℕ) (e : _) (o : ObjNo) (old : Standing) (b : 𝔹)
-    → told w c x old (next.Args (if b then calls.Body e o else calls.Nothing) q) ≡ on w old (args_then c x q old (if b then of_body e o else of_nothing) (state_of c old))
-told_may w c x q e o old true = refl
-told_may w c x q e o old false = refl
+    → told w c x old (next.Deed (deed.Reach e o b q)) ≡ on w old (args_then c x q old (if x.doer.acts || b then of_body e o else of_nothing) (state_of c old))
+told_may w c x q e o old b = refl
 
 member_callee_on : (w : World) (c : Laid) (x : Where) (b : 𝔹) (p q : ℕ) (f : Found) (old new : Standing) (y : Next)
-    → MemberCallee w b p q f old new y → told w c x new y ≡ on w old (member_callee (λ go. go b) f (name_of c p) (state_of c old) (args_then c x q old))
+    → MemberCallee w b p q f old new y → told w c x new y ≡ on w old (member_callee (may_reach x b) f (name_of c p) (state_of c old) (args_then c x q old))
 member_callee_on w c x b p q (found.Body e o) old new y h =
-    turned w c x (next.Args (if b then calls.Body e o else calls.Nothing) q) old new y h ∙ told_may w c x q e o old b
+    turned w c x (next.Deed (deed.Reach e o b q)) old new y h ∙ told_may w c x q e o old b
 member_callee_on w c x b p q (found.Signal o i) old new y h = called_on w c x (calls.Signal o i) q old new y h
 member_callee_on w c x b p q (found.Method o k) old new y h = method_on w c x o k p q old new y h
 member_callee_on w c x b p q (found.Cell k) old new y h = read_on w c x (to.Nothing q) k old new y h
@@ -231,29 +235,43 @@ member_callee_on w c x b p q (found.Object o) old new y h = called_on w c x call
 member_callee_on w c x b p q (found.Component o) old new y h = called_on w c x calls.Nothing q old new y h
 member_callee_on w c x b p q (found.Script u) old new y h = called_on w c x calls.Nothing q old new y h
 
+or_false : (b : 𝔹) → (b || false) ≡ b
+or_false true = refl
+or_false false = refl
+
+-- through a value it is reached where effects are done
+reached_is : (w : World) (acts : 𝔹) (f : Found) (n : List ℕ) (old : Standing) (s : State) (k : Callee → State → Ask)
+    → on w old (member_callee (λ go. go (acts || false)) f n s k) ≡ on w old (member_callee (λ go. go acts) f n s k)
+reached_is w acts f n old s k = ap (λ b. on w old (member_callee (λ go. go b) f n s k)) (or_false acts)
+
 value_callee_on : (w : World) (c : Laid) (x : Where) (v : Value) (p q : ℕ) (old new : Standing) (y : Next)
     → ValueCallee w c v p q old new y → told w c x new y ≡ on w old (value_callee (around_at x) v (name_of c p) (state_of c old) (args_then c x q old))
 value_callee_on w c x Undefined p q old new y h = threw_on w c x cause.Null old new y h
 value_callee_on w c x Null p q old new y h = threw_on w c x cause.Null old new y h
-value_callee_on w c x (Object o) p q old new y h = member_callee_on w c x false p q (w.names.member o (name_of c p)) old new y h
-value_callee_on w c x (Component o) p q old new y h = member_callee_on w c x false p q (w.names.member o (name_of c p)) old new y h
+value_callee_on w c x (Object o) p q old new y h =
+    member_callee_on w c x false p q (w.names.member o (name_of c p)) old new y h
+    ∙ reached_is w x.doer.acts (w.names.member o (name_of c p)) (name_of c p) old (state_of c old) (args_then c x q old)
+value_callee_on w c x (Component o) p q old new y h =
+    member_callee_on w c x false p q (w.names.member o (name_of c p)) old new y h
+    ∙ reached_is w x.doer.acts (w.names.member o (name_of c p)) (name_of c p) old (state_of c old) (args_then c x q old)
 value_callee_on w c x (Bool b) p q old new y h = called_on w c x (calls.Method (Bool b) p) q old new y h
 value_callee_on w c x (Num z) p q old new y h = called_on w c x (calls.Method (Num z) p) q old new y h
 value_callee_on w c x (Text us) p q old new y h = called_on w c x (calls.Method (Text us) p) q old new y h
 value_callee_on w c x (List' n row) p q old new y h = called_on w c x (calls.Method (List' n row) p) q old new y h
 value_callee_on w c x (Fields' n row) p q old new y h = called_on w c x (calls.Method (Fields' n row) p) q old new y h
 
-by_id_is : (w : World) (h : Home) (n m : List ℕ) (f : Found) (old : Standing) (s : State) (k : Callee → State → Ask)
-    → on w old (member_callee (λ go. go (w.names.is_id h n)) f m s k) ≡ on w old (member_callee (λ go. by_id h n go) f m s k)
-by_id_is w h n m (found.Body e o) old s k = refl
-by_id_is w h n m (found.Signal o i) old s k = refl
-by_id_is w h n m (found.Method o z) old s k = refl
-by_id_is w h n m (found.Cell z) old s k = refl
-by_id_is w h n m found.Nothing old s k = refl
-by_id_is w h n m found.Global old s k = refl
-by_id_is w h n m (found.Object o) old s k = refl
-by_id_is w h n m (found.Component o) old s k = refl
-by_id_is w h n m (found.Script u) old s k = refl
+by_id_is : (w : World) (h : Home) (acts : 𝔹) (n m : List ℕ) (f : Found) (old : Standing) (s : State) (k : Callee → State → Ask)
+    → on w old (member_callee (λ go. go (acts || w.names.is_id h n)) f m s k) ≡ on w old (member_callee (λ go. if acts then go true else by_id h n go) f m s k)
+by_id_is w h true n m f old s k = refl
+by_id_is w h false n m (found.Body e o) old s k = refl
+by_id_is w h false n m (found.Signal o i) old s k = refl
+by_id_is w h false n m (found.Method o z) old s k = refl
+by_id_is w h false n m (found.Cell z) old s k = refl
+by_id_is w h false n m found.Nothing old s k = refl
+by_id_is w h false n m found.Global old s k = refl
+by_id_is w h false n m (found.Object o) old s k = refl
+by_id_is w h false n m (found.Component o) old s k = refl
+by_id_is w h false n m (found.Script u) old s k = refl
 
 script_on : (w : World) (c : Laid) (x : Where) (q : ℕ) (f : Found) (old new : Standing) (y : Next)
     → called_at (m.script_callee f) q old new y → told w c x new y ≡ on w old (script_callee f (state_of c old) (args_then c x q old))
@@ -287,7 +305,7 @@ callee_next_on w c x (stands.Name p) q old new y h =
 callee_next_on w c x (stands.OfValue v p) q old new y h = value_callee_on w c x v p q old new y h
 callee_next_on w c x (stands.OfNamed v o p k) q old new y h =
     member_callee_on w c x (w.names.is_id x.home (name_of c p)) k q (w.names.member o (name_of c k)) old new y h
-    ∙ by_id_is w x.home (name_of c p) (name_of c k) (w.names.member o (name_of c k)) old (state_of c old) (args_then c x q old)
+    ∙ by_id_is w x.home x.doer.acts (name_of c p) (name_of c k) (w.names.member o (name_of c k)) old (state_of c old) (args_then c x q old)
 callee_next_on w c x (stands.OfScript u p) q old new y h = script_on w c x q (w.names.resolve (script_home u) (name_of c p)) old new y h
 callee_next_on w c x (stands.OfGlobal p k) q old new y h =
     let b : 𝔹 = same_units (name_of c p) (codes "Math") in

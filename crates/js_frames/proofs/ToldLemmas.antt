@@ -10,7 +10,6 @@ use Rattle.evaluation.specs.declared.came.Ended.{Ended}
 use Rattle.evaluation.specs.declared.came.Ended.TheVariants as by
 use Rattle.evaluation.specs.Ask.{Ask, reads}
 use Rattle.evaluation.specs.Evaluating.{Seen, is, looped, past}
-use Rattle.evaluation.specs.Hearing.{Hearing, comes, Heard, only, noted, by_reading, heard}
 use Rattle.js_meaning.specs.Methods.{part_of_cell}
 use Rattle.js_meaning.specs.Locals.{State, Scope, Held, dead, alive, local}
 use Rattle.js_meaning.specs.Looking.{local_or}
@@ -26,12 +25,13 @@ use Rattle.js_locals.specs.Laid.{Laid, exprs_in, name_of}
 use Rattle.js_locals.specs.Scopes.{scopes_of}
 use Rattle.js_frames.specs.Standing.{Standing, with_frame, with_read, state_of}
 use Rattle.js_meaning.specs.Assigning.{at_member}
+use Rattle.js_frames.specs.Telling.{Telling, comes, Told, only, noted, by_reading, tells}
 use Rattle.js_frames.specs.Meant.{Aim, aim_in, Where, World, around_at, steps_then, behind_mark, then_of, hears, after, told}
 use Rattle.js_frames.specs.Moves.{local_next, local_in, OrElse, Turns, threw, Pushes, next_of, arrive, arrive_ended, arrive_seen, arrive_part, ReadGives}
 use Rattle.qml_syntax.specs.Opened.{parts_of}
 
--- what is heard of questions that a machine comes to, with what it has read
-abbrev pub on : World → Standing → Ask → Heard
+-- what is told of questions that a machine comes to, with what it has read
+abbrev pub on : World → Standing → Ask → Told
 on w m ask = after m.reads (hears w ask)
 
 append_none : (rs : List CellNo) → rs ++ [] ≡ rs
@@ -42,7 +42,7 @@ append_one : (rs : List CellNo) (c : CellNo) (cs : List CellNo) → (rs ++ c ∷
 append_one [] c cs = refl
 append_one (r ∷ rs) c cs = ap (λ z. r ∷ z) (append_one rs c cs)
 
-pub stopped : (rs : List CellNo) (o : Hearing) → record { outcome = o; reads = rs } ≡ after rs (only o)
+pub stopped : (rs : List CellNo) (o : Telling) → record { outcome = o; reads = rs } ≡ after rs (only o)
 stopped rs o = ap (λ z. record { outcome = o; reads = z }) (sym (append_none rs))
 
 pub told_threw : (w : World) (c : Laid) (x : Where) (m : Standing) (q : Cause) → told w c x m (threw q) ≡ on w m (throws q)
@@ -96,7 +96,7 @@ told_if w c x m t v q false = told_threw w c x m q
 -- ---- cells
 
 seen_as : (w : World) (c : Laid) (x : Where) (m : Standing) (t : To) (cell : CellNo) (o : Option Seen)
-    → told w c x (with_read cell m) (arrive_seen t cell o) ≡ after m.reads (noted cell (by_reading o cell (λ v. heard w.names w.view (goal_of c x t m v (state_of c m)))))
+    → told w c x (with_read cell m) (arrive_seen t cell o) ≡ after m.reads (noted cell (by_reading o cell (λ v. tells w.names w.view (goal_of c x t m v (state_of c m)))))
 seen_as w c x m t cell (Some (is v)) =
     told_arrive w c x (with_read cell m) t v
     ∙ ap (λ z. record { outcome = (hears w (goal_of c x t m v (state_of c m))).outcome; reads = z }) (append_one m.reads cell (hears w (goal_of c x t m v (state_of c m))).reads)
@@ -110,7 +110,7 @@ read_on w c x t cell old new y h =
     ap (λ m. told w c x m y) h.0 ∙ ap (λ z. told w c x (with_read cell old) z) h.1 ∙ seen_as w c x old t cell (w.view cell)
 
 pub part_seen_as : (w : World) (c : Laid) (x : Where) (m : Standing) (t : To) (n : List ℕ) (z : ℤ) (cell : CellNo) (o : Option Seen)
-    → told w c x (with_read cell m) (arrive_part t n z cell o) ≡ after m.reads (noted cell (by_reading o cell (λ held. heard w.names w.view (goal_of c x t m (part_of_cell n held z) (state_of c m)))))
+    → told w c x (with_read cell m) (arrive_part t n z cell o) ≡ after m.reads (noted cell (by_reading o cell (λ held. tells w.names w.view (goal_of c x t m (part_of_cell n held z) (state_of c m)))))
 part_seen_as w c x m t n z cell (Some (is held)) =
     told_arrive w c x (with_read cell m) t (part_of_cell n held z)
     ∙ ap (λ rs. record { outcome = (hears w (goal_of c x t m (part_of_cell n held z) (state_of c m))).outcome; reads = rs }) (append_one m.reads cell (hears w (goal_of c x t m (part_of_cell n held z) (state_of c m))).reads)

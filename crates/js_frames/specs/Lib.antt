@@ -1,5 +1,6 @@
 pub mod Awaiting
 pub mod Standing
+pub mod Telling
 pub mod Meant
 pub mod Moves
 pub mod Statements

@@ -1,5 +1,5 @@
 -- What a machine that evaluates has still to do, as what goes on behind a value.
-use Rattle.std.specs.Prelude.{ℕ, ℤ, ◌+ℤ◌, Bool as 𝔹, true, if◌then◌else◌, false, List, [], ◌∷◌, ◌++◌, Option, None}
+use Rattle.std.specs.Prelude.{ℕ, ℤ, ◌+ℤ◌, Bool as 𝔹, true, ◌||◌, if◌then◌else◌, false, List, [], ◌∷◌, ◌++◌, Option, None}
 use Rattle.qml_base.specs.declared.numbers.CellNo.{CellNo}
 use Rattle.qml_base.specs.declared.numbers.ExprNo.{ExprNo}
 use Rattle.qml_base.specs.declared.numbers.ObjNo.{ObjNo}
@@ -18,12 +18,13 @@ use Rattle.evaluation.specs.declared.came.Ended.TheVariants as by
 use Rattle.evaluation.specs.declared.came.Evaluated.{Evaluated}
 use Rattle.evaluation.specs.declared.came.Evaluated.TheVariants as answer
 use Rattle.evaluation.specs.Ask.{Ask, ended, Names}
-use Rattle.evaluation.specs.Hearing.{Views, Hearing, comes, needs, Heard, heard}
+use Rattle.evaluation.specs.declared.effect.Effect.TheVariants as effect
+use Rattle.evaluation.specs.Hearing.{Views}
 use Rattle.js_meaning.specs.Operate.{bounded, counts, on_num, weighed, operate_prefix}
 use Rattle.js_meaning.specs.Rows.{list_value, fields_value, put_field}
 use Rattle.js_meaning.specs.Locals.{State, alive, local, enters, leaves, puts, is_var, is_let}
-use Rattle.js_meaning.specs.Going.{Then, Exits, Around, throws, given}
-use Rattle.js_meaning.specs.Assigning.{Spot, at_local, at_name, at_member, at_element, operator_of, written_local, written, updated, bumped_by, bound_in, assigned_to}
+use Rattle.js_meaning.specs.Going.{Then, Exits, Around, throws, counted, given}
+use Rattle.js_meaning.specs.Assigning.{Spot, at_local, at_name, at_member, at_element, operator_of, written_local, written, written_outside, updated, bumped_by, bound_in, rebound, assigned_to}
 use Rattle.js_meaning.specs.Looking.{added_by_prefix, name_in, typed_by, typed, element_of}
 use Rattle.js_meaning.specs.Calling.{Callee, of_body, of_signal, of_reading, of_doing, of_method, of_math, of_text, of_log, of_binding, of_nothing, Before, a_value, a_name, of_value, of_named, of_script, of_global, a_binding, before_value, called}
 use Rattle.js_meaning.specs.Eval.{Code, around, eval, eval_spot, spot_on, spot_of_step, stepped, signed_by, eval_all, eval_fields, eval_first, linked, if_no_link, operate_by, chosen, stepped_on, rounding_of, rounds, most, run, run_all, moved, tested}
@@ -39,6 +40,8 @@ use Rattle.js_frames.specs.declared.frames.Callee.TheVariants as calls
 use Rattle.js_frames.specs.declared.frames.Callee as code_callee
 use Rattle.js_frames.specs.declared.frames.Spot as code_spot
 use Rattle.js_frames.specs.declared.frames.Spot.TheVariants as spot
+use Rattle.js_frames.specs.declared.frames.Deed.{Deed}
+use Rattle.js_frames.specs.declared.frames.Deed.TheVariants as deed
 use Rattle.js_frames.specs.declared.frames.Gives.{Gives}
 use Rattle.js_frames.specs.declared.frames.Gives.TheVariants as gives
 use Rattle.js_frames.specs.declared.frames.Purpose.{Purpose}
@@ -48,24 +51,33 @@ use Rattle.js_locals.specs.Scopes.{scopes_of}
 use Rattle.js_fields.specs.Entries.{fields_from}
 use Rattle.js_frames.specs.Awaiting.{awaits_spot}
 use Rattle.js_frames.specs.Standing.{Standing, state_of}
+use Rattle.js_frames.specs.Telling.{Telling, comes, needs, Told, tells}
 
--- the code of all units and their trees, the object as whose author it began, and where code stands: the calls that may
--- still be opened, where its names are looked for, and which text it is of
+-- whether effects are done, and as whose author code began
+pub record Doer : Type 0 where
+  pub acts : 𝔹
+  pub body : ObjNo
+
+-- effects aren't done
+abbrev pub quiet : ObjNo → Doer
+quiet o = record { acts = false; body = o }
+
+-- the code of all units and their trees, who does it, and where code stands: the calls that may still be opened, where its
+-- names are looked for, and which text it is of
 pub record Where : Type 0 where
   pub code : Code
   pub trees : ExprNo → Laid
-  pub author : ObjNo
+  pub doer : Doer
   pub calls : ℕ
   pub home : Home
   pub at : ExprNo
 
--- effects aren't done
 abbrev pub around_at : Where → Around
-around_at x = around x.code false x.author x.calls x.home x.at
+around_at x = around x.code x.doer.acts x.doer.body x.calls x.home x.at
 
 -- the same code where it stands there
 abbrev pub moved_to : Where → Here → Where
-moved_to x h = record { code = x.code; trees = x.trees; author = x.author; calls = h.calls; home = h.home; at = h.text }
+moved_to x h = record { code = x.code; trees = x.trees; doer = x.doer; calls = h.calls; home = h.home; at = h.text }
 
 -- what names find, and what cells give
 pub record World : Type 0 where
@@ -307,15 +319,41 @@ abbrev pub behind_mark : List Item → List Item
 behind_mark [] = []
 behind_mark (i ∷ is) = is
 
+-- arguments, and the call behind them
+abbrev pub args_meant : Laid → Where → Standing → Callee → ℕ → Ask
+args_meant c x m f q =
+    eval_first (around_at x) (rounding_of f) (exprs_in (behind_mark (parts_of (c.item q)))) (state_of c m)
+    (λ vs t. called (around_at x) f vs t (λ r u. steps_then c (around_at x) (a_value r) q u (aim_in c x m.frames)))
+
+-- a call with these arguments
+abbrev pub call_meant : Laid → Where → Standing → Callee → List Value → ℕ → Ask
+call_meant c x m f vs q = called (around_at x) f vs (state_of c m) (λ r u. steps_then c (around_at x) (a_value r) q u (aim_in c x m.frames))
+
+-- what is put outside, by the latest frame
+abbrev pub put_in : Laid → Where → List Frame → Value → State → Ask
+put_in c x (frame.Assigned o back there ∷ fs) v s = written_outside (around_at x) (spot_of c there) (λ z. effect.Write z v) v s (λ r u. then_of c x fs back u)
+put_in c x fs v s = throws cause.Call
+
+abbrev pub rebound_in : Laid → Where → List Frame → Place → State → Ask
+rebound_in c x (frame.Assigned o back there ∷ fs) p s = rebound (around_at x) p (spot_of c there) s (then_of c x fs)
+rebound_in c x fs p s = counted s (λ s. counted s (λ s. counted s (λ s. throws cause.Call)))
+
+abbrev pub deed_meant : Laid → Where → Standing → Deed → Ask
+deed_meant c x m (deed.Reach e o b q) = args_meant c x m (if x.doer.acts || b then of_body e o else of_nothing) q
+deed_meant c x m (deed.Emit o i vs q) = call_meant c x m (of_signal o i) vs q
+deed_meant c x m (deed.Read o h p vs q) = call_meant c x m (of_reading o h (name_of c p)) vs q
+deed_meant c x m (deed.Do o p vs q) = call_meant c x m (of_doing o (name_of c p)) vs q
+deed_meant c x m (deed.Log vs q) = call_meant c x m of_log vs q
+deed_meant c x m (deed.Write v) = put_in c x m.frames v (state_of c m)
+deed_meant c x m (deed.Rebind p) = rebound_in c x m.frames p (state_of c m)
+
 abbrev pub meant : Laid → Where → Standing → Next → Ask
 meant c x m (next.Begin at) = eval (around_at x) (top_expr (c.item at ∷ [])) (state_of c m) (then_of c x m.frames)
 meant c x m (next.Back v) = then_of c x m.frames v (state_of c m)
 meant c x m (next.Step b p) = steps_then c (around_at x) (before_of c b) p (state_of c m) (aim_in c x m.frames)
 meant c x m (next.Signs g p) = signs_then (around_at x) g (c.item p ∷ c.rest p) (state_of c m) (then_of c x m.frames)
-meant c x m (next.Args f q) =
-    eval_first (around_at x) (rounding_of (callee_of c f)) (exprs_in (behind_mark (parts_of (c.item q)))) (state_of c m)
-    (λ vs t. called (around_at x) (callee_of c f) vs t (λ r u. steps_then c (around_at x) (a_value r) q u (aim_in c x m.frames)))
-meant c x m (next.Enter e o vs q) = called (around_at x) (of_body e o) vs (state_of c m) (λ r u. steps_then c (around_at x) (a_value r) q u (aim_in c x m.frames))
+meant c x m (next.Args f q) = args_meant c x m (callee_of c f) q
+meant c x m (next.Enter e o vs q) = call_meant c x m (of_body e o) vs q
 meant c x m (next.Targets at) = targets_then (around_at x) (c.item at ∷ c.rest at) (state_of c m) (then_of c x m.frames)
 meant c x m (next.Spot at) = eval_spot (around_at x) (top_expr (c.item at ∷ [])) (state_of c m) (spot_in c x m.frames)
 meant c x m (next.Found there) = spot_in c x m.frames (spot_of c there) (state_of c m)
@@ -326,15 +364,16 @@ meant c x m next.Done = next_in c x m.frames (state_of c m)
 meant c x m (next.Give v) = give_in c x m.frames v (state_of c m)
 meant c x m next.Stop = stop_in c x m.frames (state_of c m)
 meant c x m next.Again = again_in c x m.frames (state_of c m)
+meant c x m (next.Deed d) = deed_meant c x m d
 meant c x m (next.Ended o) = throws cause.Kind
 
-abbrev pub hears : World → Ask → Heard
-hears w ask = heard w.names w.view ask
+abbrev pub hears : World → Ask → Told
+hears w ask = tells w.names w.view ask
 
-abbrev pub after : List CellNo → Heard → Heard
+abbrev pub after : List CellNo → Told → Told
 after rs h = record { outcome = h.outcome; reads = rs ++ h.reads }
 
-abbrev pub outcome_of : Evaluated → Hearing
+abbrev pub outcome_of : Evaluated → Telling
 outcome_of (answer.Value v) = comes (came.Value v)
 outcome_of (answer.Threw c) = comes (came.Threw c)
 outcome_of answer.Loop = comes came.Loop
@@ -342,7 +381,7 @@ outcome_of answer.Past = comes came.Past
 outcome_of (answer.Need c) = needs c
 outcome_of answer.NoMemory = comes came.Loop
 
--- what is heard in all, with what was read before
-abbrev pub told : World → Laid → Where → Standing → Next → Heard
+-- what is told in all, with what was read before
+abbrev pub told : World → Laid → Where → Standing → Next → Told
 told w c x m (next.Ended o) = record { outcome = outcome_of o; reads = m.reads }
 told w c x m y = after m.reads (hears w (meant c x m y))

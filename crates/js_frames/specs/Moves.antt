@@ -1,5 +1,5 @@
 -- The moves of the machine: what each node, each frame and each step becomes.
-use Rattle.std.specs.Prelude.{◌≡◌, ◌⊎◌, ℕ, ◌<◌, ℤ, pos, Bool as 𝔹, true, false, ◌&&◌, if◌then◌else◌, List, [], ◌∷◌, ◌++◌, codes, Option, Some, None}
+use Rattle.std.specs.Prelude.{◌≡◌, ◌⊎◌, ℕ, ◌<◌, ◌≤◌, ℤ, pos, Bool as 𝔹, true, false, ◌&&◌, if◌then◌else◌, List, [], ◌∷◌, ◌++◌, codes, Option, Some, None}
 use Rattle.qml_base.specs.declared.numbers.ObjNo.{ObjNo}
 use Rattle.qml_base.specs.declared.numbers.CellNo.{CellNo}
 use Rattle.qml_base.specs.declared.numbers.Place.{Place}
@@ -37,6 +37,8 @@ use Rattle.js_frames.specs.declared.frames.Before.{Before}
 use Rattle.js_frames.specs.declared.frames.Before.TheVariants as stands
 use Rattle.js_frames.specs.declared.frames.Callee.{Callee}
 use Rattle.js_frames.specs.declared.frames.Callee.TheVariants as calls
+use Rattle.js_frames.specs.declared.frames.Deed.{Deed}
+use Rattle.js_frames.specs.declared.frames.Deed.TheVariants as deed
 use Rattle.js_frames.specs.declared.frames.Purpose.{Purpose}
 use Rattle.js_frames.specs.declared.frames.Purpose.TheVariants as purpose
 use Rattle.js_frames.specs.declared.frames.Spot.TheVariants as spot
@@ -156,17 +158,27 @@ abbrev pub PartGives : World → To → List ℕ → CellNo → Value → Standi
 PartGives w t n h (Num z) old new y = (new ≡ with_read h old) × (y ≡ arrive_part t n z h (w.view h))
 PartGives w t n h v old new y = Turns (threw cause.Kind) old new y
 
+-- what goes by effects, where none is done: what would do one throws
+abbrev pub Refuses : World → Laid → Deed → Standing → Standing → Next → Type 0
+Refuses w c (deed.Reach e o b q) old new y = Turns (next.Args (if b then calls.Body e o else calls.Nothing) q) old new y
+Refuses w c (deed.Emit o i vs q) old new y = Turns (threw cause.Call) old new y
+Refuses w c (deed.Read o h p vs q) old new y = PartGives w (to.Step q) (name_of c p) h (at_place vs 0) old new y
+Refuses w c (deed.Do o p vs q) old new y = Turns (threw cause.Call) old new y
+Refuses w c (deed.Log vs q) old new y = Turns (threw cause.Call) old new y
+Refuses w c (deed.Write v) old new y = Turns (threw cause.Call) old new y
+Refuses w c (deed.Rebind p) old new y = ((old.left < 3) × Turns (threw cause.Nodes) old new y) ⊎ ((3 ≤ old.left) × Turns (threw cause.Call) old new y)
+
 -- all values of a row are there
 abbrev pub Finishes : World → Laid → Purpose → List Value → Standing → Standing → Next → Type 0
 Finishes w c purpose.List vs old new y = Turns (next_of (weighed (list_value vs))) old new y
 Finishes w c (purpose.Call (calls.Body e o) q) vs old new y = Turns (next.Enter e o vs q) old new y
-Finishes w c (purpose.Call (calls.Signal o i) q) vs old new y = Turns (threw cause.Call) old new y
-Finishes w c (purpose.Call (calls.Reading o h p) q) vs old new y = PartGives w (to.Step q) (name_of c p) h (at_place vs 0) old new y
-Finishes w c (purpose.Call (calls.Doing o p) q) vs old new y = Turns (threw cause.Call) old new y
+Finishes w c (purpose.Call (calls.Signal o i) q) vs old new y = Turns (next.Deed (deed.Emit o i vs q)) old new y
+Finishes w c (purpose.Call (calls.Reading o h p) q) vs old new y = Turns (next.Deed (deed.Read o h p vs q)) old new y
+Finishes w c (purpose.Call (calls.Doing o p) q) vs old new y = Turns (next.Deed (deed.Do o p vs q)) old new y
 Finishes w c (purpose.Call (calls.Method v p) q) vs old new y = Turns (arrive_ended (to.Step q) (method_of v (name_of c p) vs)) old new y
 Finishes w c (purpose.Call (calls.Math p) q) vs old new y = Turns (arrive_ended (to.Step q) (math_method (name_of c p) vs)) old new y
 Finishes w c (purpose.Call calls.Text q) vs old new y = Turns (arrive_ended (to.Step q) (text_from vs)) old new y
-Finishes w c (purpose.Call calls.Log q) vs old new y = Turns (threw cause.Call) old new y
+Finishes w c (purpose.Call calls.Log q) vs old new y = Turns (next.Deed (deed.Log vs q)) old new y
 Finishes w c (purpose.Call calls.Binding q) vs old new y = Turns (threw cause.Kind) old new y
 Finishes w c (purpose.Call calls.Nothing q) vs old new y = Turns (threw cause.Call) old new y
 
@@ -332,7 +344,7 @@ NamedCallee w c p q f old new y = called_at calls.Nothing q old new y
 
 -- a member that is called; a document's function is only where it may be
 abbrev pub MemberCallee : World → 𝔹 → ℕ → ℕ → Found → Standing → Standing → Next → Type 0
-MemberCallee w may m q (found.Body e o) old new y = called_at (if may then calls.Body e o else calls.Nothing) q old new y
+MemberCallee w may m q (found.Body e o) old new y = Turns (next.Deed (deed.Reach e o may q)) old new y
 MemberCallee w may m q (found.Signal o i) old new y = called_at (calls.Signal o i) q old new y
 MemberCallee w may m q (found.Method o h) old new y = Turns (method_called o h m q) old new y
 MemberCallee w may m q (found.Cell h) old new y = ReadGives w (to.Nothing q) h old new y

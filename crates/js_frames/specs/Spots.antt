@@ -19,6 +19,7 @@ use Rattle.js_frames.specs.declared.frames.Frame.{Frame}
 use Rattle.js_frames.specs.declared.frames.Frame.TheVariants as frame
 use Rattle.js_frames.specs.declared.frames.Next.{Next}
 use Rattle.js_frames.specs.declared.frames.Next.TheVariants as next
+use Rattle.js_frames.specs.declared.frames.Deed.TheVariants as deed
 use Rattle.js_frames.specs.declared.frames.Spot.{Spot}
 use Rattle.js_frames.specs.declared.frames.Spot.TheVariants as spot
 use Rattle.js_frames.specs.declared.frames.To.{To}
@@ -74,9 +75,9 @@ SpotGives w c x (spot.Element v i) old new y = ElementOf w to.Back v i old new y
 
 -- ---- a spot that is found
 
--- the value behind the last target is a `Qt.binding`: three nodes more, and then no assignment outside a body
-abbrev pub Rebinds : Standing → Standing → Next → Type 0
-Rebinds old new y = ((old.left < 3) × Turns (threw cause.Nodes) old new y) ⊎ ((3 ≤ old.left) × Turns (threw cause.Call) old new y)
+-- the value behind the last target is a `Qt.binding`
+abbrev pub Rebinds : Spot → Place → Standing → Standing → Next → Type 0
+Rebinds there p old new y = (new ≡ with_frame (frame.Assigned None Undefined there) old) × (y ≡ next.Deed (deed.Rebind p))
 
 -- the right side is begun
 abbrev pub RightBegins : Laid → Option Operator → Value → Spot → ℕ → Standing → Standing → Next → Type 0
@@ -84,17 +85,13 @@ RightBegins c o v there q old new y =
     (r : ℕ) × (c.rest q ≡ c.item r ∷ c.rest r) × (new ≡ with_frame (frame.Assigned o v there) old) × (y ≡ next.Targets r)
 
 -- without an operator
-abbrev pub PlainlyFound : Laid → 𝔹 → Spot → ℕ → Standing → Standing → Next → Type 0
-PlainlyFound c true there q old new y = Rebinds old new y
-PlainlyFound c false there q old new y = RightBegins c None Undefined there q old new y
+abbrev pub PlainlyFound : Laid → Option Place → Spot → ℕ → Standing → Standing → Next → Type 0
+PlainlyFound c (Some p) there q old new y = Rebinds there p old new y
+PlainlyFound c None there q old new y = RightBegins c None Undefined there q old new y
 
-abbrev pub FoundBy : World → Laid → Home → Option Operator → 𝔹 → Spot → ℕ → Standing → Standing → Next → Type 0
+abbrev pub FoundBy : World → Laid → Home → Option Operator → Option Place → Spot → ℕ → Standing → Standing → Next → Type 0
 FoundBy w c x None b there q old new y = PlainlyFound c b there q old new y
 FoundBy w c x (Some o) b there q old new y = SpotGives w c x there (with_frame (frame.Updated there q) old) new y
-
-abbrev pub is_bound : Option Place → 𝔹
-is_bound None = false
-is_bound (Some p) = true
 
 -- ---- a `Qt.binding` that is assigned, by its nodes
 
@@ -110,35 +107,35 @@ abbrev pub is_member : Node → 𝔹
 is_member (node.Member n p) = same_units n (codes "binding")
 is_member _ = false
 
-abbrev pub is_function : Node → 𝔹
-is_function (node.Binding p) = true
-is_function _ = false
+abbrev pub function_place : Node → Option Place
+function_place (node.Binding p) = Some p
+function_place _ = None
 
 -- one function, and nothing behind it
-abbrev pub single_function : List Item → 𝔹
-single_function (of_step (binding p ss) ∷ []) = true
-single_function _ = false
+abbrev pub single_function : List Item → Option Place
+single_function (of_step (binding p ss) ∷ []) = Some p
+single_function _ = None
 
 -- whether the expression at a place is one, whatever stands behind it
-pub record BoundAt (c : Laid) (at : ℕ) (b : 𝔹) : Type 0 where
-  pub bound : (is : List Item) → b ≡ is_bound (bound_of (c.item at ∷ is))
+pub record BoundAt (c : Laid) (at : ℕ) (b : Option Place) : Type 0 where
+  pub bound : (is : List Item) → b ≡ bound_of (c.item at ∷ is)
 
 -- by the frame that awaits it
 abbrev pub FoundFor : World → Laid → Home → Frame → Spot → Standing → Standing → Next → Type 0
-FoundFor w c x (frame.Target q) there old new y = FoundBy w c x (operator_at c q) (is_bound (bound_of (c.rest q))) there q old new y
+FoundFor w c x (frame.Target q) there old new y = FoundBy w c x (operator_at c q) (bound_of (c.rest q)) there q old new y
 FoundFor w c x (frame.Bump z g) there old new y = SpotGives w c x there (with_frame (frame.Bumped z g there) old) new y
 FoundFor w c x f there old new y = ⊥
 
 -- ---- what is put there
 
--- only locals are assigned to outside a body
-abbrev pub SpotWrites : Laid → Spot → Value → Next → Standing → Standing → Next → Type 0
-SpotWrites c (spot.Local p) v z old new y = Writes c (name_of c p) v z old new y
-SpotWrites c there v z old new y = Turns (threw cause.Call) old new y
+-- a value for a spot, and what goes back then
+abbrev pub SpotWrites : Laid → Spot → Value → Value → Standing → Standing → Next → Type 0
+SpotWrites c (spot.Local p) v back old new y = Writes c (name_of c p) v (next.Back back) old new y
+SpotWrites c there v back old new y = (new ≡ with_frame (frame.Assigned None back there) old) × (y ≡ next.Deed (deed.Write v))
 
 -- what was computed is put there, and then a value goes back
 abbrev pub Stores : Laid → Spot → Ended → (Value → Value) → Standing → Standing → Next → Type 0
-Stores c there (by.Value v) back old new y = SpotWrites c there v (next.Back (back v)) old new y
+Stores c there (by.Value v) back old new y = SpotWrites c there v (back v) old new y
 Stores c there (by.Threw q) back old new y = Turns (threw q) old new y
 Stores c there by.Past back old new y = Turns (next.Ended answer.Past) old new y
 

@@ -1,5 +1,5 @@
 -- One move of the machine, and whole evaluations.
-use Rattle.std.specs.Prelude.{◌≡◌, ◌⊎◌, ℕ, ◌<◌, ◌-◌, Bool as 𝔹, true, false, if◌then◌else◌, List, [], ◌∷◌, Option, Some, None}
+use Rattle.std.specs.Prelude.{◌≡◌, ◌⊎◌, ℕ, ◌<◌, ◌-◌, Bool as 𝔹, true, false, if◌then◌else◌, List, [], ◌∷◌, ◌++◌, Option, Some, None}
 use Rattle.qml_base.specs.declared.numbers.CellNo.{CellNo}
 use Rattle.qml_base.specs.declared.numbers.ExprNo.{ExprNo}
 use Rattle.qml_base.specs.declared.numbers.ObjNo.{ObjNo}
@@ -13,7 +13,7 @@ use Rattle.qml_syntax.specs.Opened.{node_of}
 use Rattle.qml_value.specs.declared.value.Value.{Value, Undefined}
 use Rattle.evaluation.specs.declared.came.Evaluated.{Evaluated}
 use Rattle.evaluation.specs.declared.came.Evaluated.TheVariants as answer
-use Rattle.evaluation.specs.Hearing.{Heard, heard, Answers}
+use Rattle.evaluation.specs.declared.came.Came.TheVariants as came
 use Rattle.js_meaning.specs.Locals.{lets_of, vars_of_all, parameters}
 use Rattle.js_meaning.specs.Eval.{Code, asks_whole}
 use Rattle.js_frames.specs.declared.frames.Frame.{Frame}
@@ -29,27 +29,32 @@ use Rattle.js_frames.specs.declared.kinds.Kind.TheVariants as kind
 use Rattle.js_locals.specs.Laid.{Laid, laid, stmts_in, is_expr_node}
 use Rattle.js_locals.specs.Scopes.{scopes_of}
 use Rattle.js_frames.specs.Standing.{Standing, with_frame, with_locals}
-use Rattle.js_frames.specs.Meant.{Where, World, told, after}
+use Rattle.js_frames.specs.Telling.{Telling, comes, needs, Told}
+use Rattle.js_frames.specs.Meant.{Doer, quiet, Where, World, told, hears, after}
 use Rattle.js_frames.specs.Moves.{Turns, threw}
 use Rattle.js_frames.specs.Statements.{GoesOn, Gives, Stops, GoesAgain}
 
 -- ---- moves within the code that is under way
 
--- what is heard in all stays the same, whatever code of this home it is
+-- what is told in all stays the same, whatever code of this home it is
 abbrev pub GoesAt : World → Laid → Home → Standing → Next → Standing → Next → Type 0
 GoesAt w c home old z new y = (x : Where) → x.home ≡ home → told w c x new y ≡ told w c x old z
 
 -- ---- moves that lead to other code and back
 
-abbrev pub where_of : Code → (ExprNo → Table) → ObjNo → Here → Where
-where_of code tables o h = record { code = code; trees = λ e. laid (tables e); author = o; calls = h.calls; home = h.home; at = h.text }
+abbrev pub where_of : Code → (ExprNo → Table) → Doer → Here → Where
+where_of code tables d h = record { code = code; trees = λ e. laid (tables e); doer = d; calls = h.calls; home = h.home; at = h.text }
 
-abbrev pub told_at : World → Code → (ExprNo → Table) → ObjNo → Here → Standing → Next → Heard
-told_at w code tables o h m y = told w (laid (tables h.text)) (where_of code tables o h) m y
+abbrev pub told_at : World → Code → (ExprNo → Table) → Doer → Here → Standing → Next → Told
+told_at w code tables d h m y = told w (laid (tables h.text)) (where_of code tables d h) m y
 
--- what is heard in all stays the same, whoever the author is as whom it began
+-- what is told in all stays the same
+abbrev pub GoesAs : World → Code → (ExprNo → Table) → Doer → Here → Here → Standing → Next → Standing → Next → Type 0
+GoesAs w code tables d h g old z new y = told_at w code tables d g new y ≡ told_at w code tables d h old z
+
+-- it does where no effect is done, whoever the author is as whom it began
 pub record Goes (w : World) (code : Code) (tables : ExprNo → Table) (h g : Here) (old : Standing) (z : Next) (new : Standing) (y : Next) : Type 0 where
-  pub same : (o : ObjNo) → told_at w code tables o g new y ≡ told_at w code tables o h old z
+  pub same : (o : ObjNo) → GoesAs w code tables (quiet o) h g old z new y
 
 -- the frames behind the latest
 abbrev pub with_frames : List Frame → Standing → Standing
@@ -114,16 +119,25 @@ other_kind _ = kind.Other
 abbrev pub kind_of : Node → Kind
 kind_of n = if is_expr_node n then kind.Expression else other_kind n
 
--- what is heard of a whole text is heard of what begins at a place
+-- what is told of a whole text is told of what begins at a place
 pub record Starts (c : Laid) (at : ℕ) (ls : List Local) (y : Next) : Type 0 where
-  pub heard_as : (w : World) (rs : List CellNo) (x : Where) (t : Whole) → StandsAs t (c.item at) → x.calls ≡ 100 → x.author ≡ x.home.author
-      → told w c x (record { frames = []; reads = rs; left = 100000; locals = ls }) y ≡ after rs (heard w.names w.view (asks_whole x.code x.home x.at t))
+  pub told_as : (w : World) (rs : List CellNo) (x : Where) (t : Whole) → StandsAs t (c.item at) → x.calls ≡ 100 → x.doer ≡ quiet x.home.author
+      → told w c x (record { frames = []; reads = rs; left = 100000; locals = ls }) y ≡ after rs (hears w (asks_whole x.code x.home x.at t))
 
 -- so it is where the text is of this kind
 pub record StartsIf (c : Laid) (k : Kind) (at : ℕ) (ls : List Local) (y : Next) : Type 0 where
   pub starts : kind_of (node_of (c.item at)) ≡ k → Starts c at ls y
 
+-- the answer of a call that evaluates, by what is told of it
+abbrev pub Ends : Told → List CellNo → List CellNo → Evaluated → Type 0
+Ends t old new (answer.Value v) = (t.outcome ≡ comes (came.Value v)) × (new ≡ old ++ t.reads)
+Ends t old new (answer.Threw c) = (t.outcome ≡ comes (came.Threw c)) × (new ≡ old ++ t.reads)
+Ends t old new answer.Loop = (t.outcome ≡ comes came.Loop) × (new ≡ old ++ t.reads)
+Ends t old new answer.Past = (t.outcome ≡ comes came.Past) × (new ≡ old ++ t.reads)
+Ends t old new (answer.Need c) = (t.outcome ≡ needs c) × (new ≡ old ++ t.reads)
+Ends t old new answer.NoMemory = Unit {0}
+
 -- what goes on from here, with these locals, has this outcome
 pub record EndsAs (w : World) (code : Code) (tables : ExprNo → Table) (h : Here) (ls : List Local) (z : Next) (old new : List CellNo) (o : Evaluated) : Type 0 where
-  pub ends : (a : ObjNo) (heard_in : Heard)
-      → told_at w code tables a h (record { frames = []; reads = old; left = 100000; locals = ls }) z ≡ after old heard_in → Answers heard_in old new o
+  pub ends : (a : ObjNo) (t : Told)
+      → told_at w code tables (quiet a) h (record { frames = []; reads = old; left = 100000; locals = ls }) z ≡ after old t → Ends t old new o

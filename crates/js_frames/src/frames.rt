@@ -7,7 +7,7 @@ use evaluation::{Args, Evaluated};
 use js_fields::Entries;
 use js_locals::{DeclaredNames, Locals};
 use js_meaning::Rounding;
-use qml_base::{CellNo, ExprNo, Found, Home, ObjNo, UnitNo};
+use qml_base::{CellNo, ExprNo, Found, Home, ObjNo, Place, UnitNo};
 use qml_syntax::{Declaration, Operator, Prefix};
 use qml_value::Value;
 use std::alloc::{AllocFailed, Global};
@@ -154,6 +154,25 @@ pub enum Frame {
     Call(Here, Locals, usize),
 }
 
+/// What goes by whether effects are done. Calls stand at the place that comes last.
+#[derive(Drop)]
+pub enum Deed {
+    /// The function of a document is called as a member, where it may be or effects are done.
+    Reach(ExprNo, ObjNo, bool, usize),
+    /// A signal is called.
+    Emit(ObjNo, u32, Args, usize),
+    /// A method is called that reads a hidden cell, with the place of its name.
+    Read(ObjNo, CellNo, usize, Args, usize),
+    /// A method is called that does something outside, with the place of its name.
+    Do(ObjNo, usize, Args, usize),
+    /// `console.log` is called.
+    Log(Args, usize),
+    /// A value is put outside, in the spot of the latest frame; the value in that frame goes on.
+    Write(Value),
+    /// The function of the `Qt.binding` whose call stands at a place of the text is put there.
+    Rebind(Place),
+}
+
 /// What comes next.
 #[derive(Drop)]
 pub enum Next {
@@ -189,6 +208,8 @@ pub enum Next {
     Stop,
     /// A loop goes on with its next round.
     Again,
+    /// What goes by whether effects are done.
+    Deed(Deed),
     /// All has ended.
     Ended(Evaluated),
 }

@@ -11,6 +11,6 @@ pub mod laws;
 mod machine;
 
 pub use code::Code;
-pub use frames::{Before, Callee, Frame, Gives, Here, Next, Purpose, Spot, Stack, To};
+pub use frames::{Before, Callee, Deed, Frame, Gives, Here, Next, Purpose, Spot, Stack, To};
 pub use kinds::Kind;
 pub use machine::Machine;

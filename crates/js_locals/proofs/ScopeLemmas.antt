@@ -36,6 +36,7 @@ local_is c n [] = refl
 local_is c n (own.Scope ∷ ls) = local_is c n ls
 local_is c n (own.Dead p ∷ ls) = local_onto n (name_of c p, dead) (scopes_of c ls) ∙ ap (λ z. if same_units n (name_of c p) then Some dead else z) (local_is c n ls)
 local_is c n (own.Alive p w v ∷ ls) = local_onto n (name_of c p, alive w v) (scopes_of c ls) ∙ ap (λ z. if same_units n (name_of c p) then Some (alive w v) else z) (local_is c n ls)
+local_is c n (own.Given m w v ∷ ls) = local_onto n (m, alive w v) (scopes_of c ls) ∙ ap (λ z. if same_units n m then Some (alive w v) else z) (local_is c n ls)
 
 -- ---- another value
 
@@ -74,6 +75,10 @@ put_is c n w v (own.Alive p u o ∷ ls) =
     put_onto n (alive w v) (name_of c p, alive u o) (scopes_of c ls)
     ∙ put_by_if c (same_units n (name_of c p)) (own.Alive p u o) (own.Alive p w v) (name_of c p, alive u o) (name_of c p, alive w v) (scopes_of c ls) ls (put_by c n w v ls) (put n (alive w v) (scopes_of c ls))
     refl (ap (λ z. slot_onto (name_of c p, alive u o) z) (sym (put_is c n w v ls)))
+put_is c n w v (own.Given m u o ∷ ls) =
+    put_onto n (alive w v) (m, alive u o) (scopes_of c ls)
+    ∙ put_by_if c (same_units n m) (own.Given m u o) (own.Given m w v) (m, alive u o) (m, alive w v) (scopes_of c ls) ls (put_by c n w v ls) (put n (alive w v) (scopes_of c ls))
+    refl (ap (λ z. slot_onto (m, alive u o) z) (sym (put_is c n w v ls)))
 
 -- ---- scopes that are left and opened
 
@@ -86,6 +91,7 @@ inner_is c [] = refl
 inner_is c (own.Scope ∷ ls) = refl
 inner_is c (own.Dead p ∷ ls) = inner_is c ls ∙ sym (inner_onto (name_of c p, dead) (scopes_of c ls))
 inner_is c (own.Alive p w v ∷ ls) = inner_is c ls ∙ sym (inner_onto (name_of c p, alive w v) (scopes_of c ls))
+inner_is c (own.Given n w v ∷ ls) = inner_is c ls ∙ sym (inner_onto (n, alive w v) (scopes_of c ls))
 
 fresh_end : (b : 𝔹) (ps : List ℕ) (p : ℕ) (ls : List Local) → fresh_onto b ps (fresh b p ∷ ls) ≡ fresh_onto b (ps ++ p ∷ []) ls
 fresh_end b [] p ls = refl

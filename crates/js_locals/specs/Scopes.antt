@@ -19,6 +19,7 @@ scopes_of c [] = []
 scopes_of c (own.Scope ∷ ls) = [] ∷ scopes_of c ls
 scopes_of c (own.Dead p ∷ ls) = slot_onto (name_of c p, dead) (scopes_of c ls)
 scopes_of c (own.Alive p w v ∷ ls) = slot_onto (name_of c p, alive w v) (scopes_of c ls)
+scopes_of c (own.Given n w v ∷ ls) = slot_onto (n, alive w v) (scopes_of c ls)
 
 -- ---- a local by its name
 
@@ -26,11 +27,13 @@ abbrev pub named_by : Laid → List ℕ → Local → 𝔹
 named_by c n own.Scope = false
 named_by c n (own.Dead p) = same_units n (name_of c p)
 named_by c n (own.Alive p w v) = same_units n (name_of c p)
+named_by c n (own.Given m w v) = same_units n m
 
 abbrev pub held_of : Local → Option Held
 held_of own.Scope = None
 held_of (own.Dead p) = Some dead
 held_of (own.Alive p w v) = Some (alive w v)
+held_of (own.Given n w v) = Some (alive w v)
 
 -- what the local of this name holds, the innermost first
 abbrev pub held_by : Laid → List ℕ → List Local → Option Held
@@ -42,6 +45,7 @@ abbrev pub given_value : 𝔹 → Value → Local → Local
 given_value w v own.Scope = own.Scope
 given_value w v (own.Dead p) = own.Alive p w v
 given_value w v (own.Alive p u old) = own.Alive p w v
+given_value w v (own.Given n u old) = own.Given n w v
 
 -- the locals with another value for the one of this name
 abbrev pub put_by : Laid → List ℕ → 𝔹 → Value → List Local → List Local
@@ -82,6 +86,7 @@ abbrev pub is_scope : Local → 𝔹
 is_scope own.Scope = true
 is_scope (own.Dead p) = false
 is_scope (own.Alive p w v) = false
+is_scope (own.Given n w v) = false
 
 -- the locals behind what begins the innermost scope
 abbrev pub outer : List Local → List Local

@@ -1,6 +1,6 @@
 //! The locals of a call.
 
-ghost use Rattle.std.specs.Prelude.{◌≡◌, ◌<◌, [], ◌∷◌, None, length, reverse, OnOk, IfOk, MatchOption};
+ghost use Rattle.std.specs.Prelude.{◌≡◌, ◌<◌, [], ◌∷◌, None, if◌then◌else◌, length, reverse, OnOk, IfOk, MatchOption};
 ghost use Rattle.js_meaning.specs.Operate.{same_units};
 ghost use Rattle.js_locals.specs.Laid.{laid};
 ghost use Rattle.js_meaning.specs.Locals.{local};
@@ -24,6 +24,8 @@ pub enum Local {
     Dead(usize),
     /// A local with its value, and whether it may be assigned.
     Alive(usize, bool, Value),
+    /// A local likewise whose name stands in no node: a parameter of a signal.
+    Given(Text, bool, Value),
 }
 
 /// The locals of a call, scope by scope. Contracts see the latest in front.
@@ -105,6 +107,7 @@ fn is_named(local: &Local, tree: &Tree, name: &Text) -> Result<bool, NoMemory>
             let own = name_of(tree, *place)?;
             Ok(same_name(name, own))
         }
+        Local::Given(own, _, _) => Ok(same_name(name, own)),
     }
 }
 
@@ -142,6 +145,17 @@ pub enum Writable {
     Nothing,
 }
 
+/// Whether a local with a value may be assigned.
+fn writable_if(yes: bool) -> Writable
+    ensures { result ≡ (if yes then Writable.Yes else Writable.Readonly) }
+{
+    if yes {
+        Writable::Yes
+    } else {
+        Writable::Readonly
+    }
+}
+
 /// Whether a local may be assigned.
 fn writable_held(local: &Local) -> Writable
     ensures { result ≡ writable_by (held_of local.now) }
@@ -149,13 +163,8 @@ fn writable_held(local: &Local) -> Writable
     match local {
         Local::Scope => Writable::Nothing,
         Local::Dead(_) => Writable::Nothing,
-        Local::Alive(_, yes, _) => {
-            if *yes {
-                Writable::Yes
-            } else {
-                Writable::Readonly
-            }
-        }
+        Local::Alive(_, yes, _) => writable_if(*yes),
+        Local::Given(_, yes, _) => writable_if(*yes),
     }
 }
 
@@ -177,6 +186,7 @@ fn given_value(local: Local, writable: bool, value: Value) -> Local
         Local::Scope => Local::Scope,
         Local::Dead(place) => Local::Alive(place, writable, value),
         Local::Alive(place, _, _) => Local::Alive(place, writable, value),
+        Local::Given(name, _, _) => Local::Given(name, writable, value),
     }
 }
 
@@ -228,7 +238,7 @@ fn is_scope(local: &Local) -> bool
 {
     match local {
         Local::Scope => true,
-        Local::Dead(_) | Local::Alive(_, _, _) => false,
+        Local::Dead(_) | Local::Alive(_, _, _) | Local::Given(_, _, _) => false,
     }
 }
 

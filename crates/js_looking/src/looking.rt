@@ -129,6 +129,10 @@ fn taken(alloc: Global, to: To, local: &Local) -> Result<Option<Next>, NoMemory>
             let value = copied(alloc, value)?;
             Ok(Some(arrive(to, value)))
         }
+        Local::Given(_, _, value) => {
+            let value = copied(alloc, value)?;
+            Ok(Some(arrive(to, value)))
+        }
     }
 }
 

@@ -18,6 +18,7 @@ use Rattle.js_frames.specs.declared.frames.Here.{Here}
 use Rattle.js_frames.specs.declared.frames.Before.{Before}
 use Rattle.js_frames.specs.declared.frames.Before.TheVariants as stands
 use Rattle.js_frames.specs.declared.frames.Callee.{Callee}
+use Rattle.js_frames.specs.declared.frames.Deed.{Deed}
 use Rattle.js_frames.specs.declared.frames.Next.{Next}
 use Rattle.js_frames.specs.declared.frames.Next.TheVariants as next
 use Rattle.js_frames.specs.declared.frames.Spot.{Spot}
@@ -32,10 +33,11 @@ use Rattle.js_frames.specs.Statements.{RunsAt, Rests, Declares, Takes, GoesOn, G
 use Rattle.js_frames.specs.Stepping.{Goes, has_ended_of, with_frames, body_here, Enters, Unwinds}
 use Rattle.js_frames.proofs.EndLemmas as kept
 use Rattle.js_frames.proofs.CallLemmas as calls
+use Rattle.js_frames.proofs.RefuseLemmas as refused
 use Rattle.js_progress.specs.Work.{behind, steps_work, enter_work, frames_work, work, Leaves, Falls}
 use Rattle.js_progress.specs.Moving.{MovesAt, work_at, Moves, Nears}
 use Rattle.js_progress.proofs.WorkLemmas.{turns_in, fall, stops}
-use Rattle.js_progress.proofs.StepFalls.{begun_falls, signs_falls, steps_falls, args_falls, resumed_falls}
+use Rattle.js_progress.proofs.StepFalls.{begun_falls, signs_falls, steps_falls, args_falls, resumed_falls, refuses_falls}
 use Rattle.js_progress.proofs.StatementFalls.{declares_falls, runs_falls, rests_falls, takes_falls, goes_on_falls, gives_falls, stops_falls, goes_again_falls, targets_falls, spot_falls, found_falls, assigns_falls}
 
 -- ---- moves within the code that is under way
@@ -94,6 +96,10 @@ within_at w code tables h t old z new y e g =
     let f : Falls (laid (tables h.text)) (λ a. laid (tables a)) old z new y = subst (λ (u : Table). Falls (laid u) (λ a. laid (tables a)) old z new y) e (g.falls (λ a. laid (tables a))) in
     record { keeps = calls.within_at w code tables h t old z new y e g.keeps; nodes = f.nodes; less = f.less }
 
+-- a node is begun, or less is left to be done before the next one is
+abbrev pub Less : (ExprNo → Table) → Here → Here → Standing → Next → Standing → Next → Type 0
+Less tables h g old z new y = (new.left ≤ old.left) × ((new.left < old.left) ⊎ (work_at tables g new.frames y < work_at tables h old.frames z))
+
 -- the work left where code stands
 abbrev left_at : (ExprNo → Table) → Here → List Frame → ℕ
 left_at tables h fs = frames_work (laid (tables h.text)) (λ a. laid (tables a)) fs
@@ -101,9 +107,9 @@ left_at tables h fs = frames_work (laid (tables h.text)) (λ a. laid (tables a))
 same_work : (tables : ExprNo → Table) (h g : Here) (fs gs : List Frame) (x y : Next) → g ≡ h → fs ≡ gs → y ≡ x → work_at tables g fs y ≡ work_at tables h gs x
 same_work tables h g fs gs x y a b c = ap (λ k. work_at tables k fs y) a ∙ ap (λ k. work_at tables h k y) b ∙ ap (λ k. work_at tables h gs k) c
 
-pub enters_when : (w : World) (code : Code) (tables : ExprNo → Table) (h g : Here) (e : ExprNo) (o : ObjNo) (vs : List Value) (q : ℕ) (old : Standing) (z : Next) (new : Standing) (y : Next)
-    → z ≡ next.Enter e o vs q → Enters code tables e o vs q h g old new y → Moves w code tables h g old z new y
-enters_when w code tables h g e o vs q old z new y k b =
+pub enters_less : (code : Code) (tables : ExprNo → Table) (h g : Here) (e : ExprNo) (o : ObjNo) (vs : List Value) (q : ℕ) (old : Standing) (z : Next) (new : Standing) (y : Next)
+    → z ≡ next.Enter e o vs q → Enters code tables e o vs q h g old new y → Less tables h g old z new y
+enters_less code tables h g e o vs q old z new y k b =
     let r : (new.left ≤ old.left) × (work_at tables g new.frames y < work_at tables h old.frames (next.Enter e o vs q)) = elim b [
       | inl l ↦
           (let n : new.left ≡ old.left = ap (λ s. s.left) (l.2).0 in
@@ -115,14 +121,20 @@ enters_when w code tables h g e o vs q old z new y k b =
           let d : work_at tables g new.frames y ≡ work_at tables there (frame.Call h old.locals q ∷ old.frames) (next.Rest (s.1).1) = same_work tables there g new.frames (frame.Call h old.locals q ∷ old.frames) (next.Rest (s.1).1) y ((s.1).4).0 (ap (λ s. s.frames) ((s.1).4).1) (s.1).5 in
           (omega (arith, n), omega (arith, d)))
     ] in
-    record { keeps = calls.enters_when w code tables h g e o vs q old z new y k b; nodes = r.0; less = inr (subst (λ (u : Next). work_at tables g new.frames y < work_at tables h old.frames u) (sym k) r.1) }
+    (r.0, inr (subst (λ (u : Next). work_at tables g new.frames y < work_at tables h old.frames u) (sym k) r.1))
+
+pub enters_when : (w : World) (code : Code) (tables : ExprNo → Table) (h g : Here) (e : ExprNo) (o : ObjNo) (vs : List Value) (q : ℕ) (old : Standing) (z : Next) (new : Standing) (y : Next)
+    → z ≡ next.Enter e o vs q → Enters code tables e o vs q h g old new y → Moves w code tables h g old z new y
+enters_when w code tables h g e o vs q old z new y k b =
+    let r = enters_less code tables h g e o vs q old z new y k b in
+    record { keeps = calls.enters_when w code tables h g e o vs q old z new y k b; nodes = r.0; less = r.1 }
 
 -- by the latest frame
 unwinds : (tables : ExprNo → Table) (h g : Here) (z : Next) (v : Value) (goes : Frame → Standing → Standing → Next → Type 0) (old new : Standing) (y : Next)
     → ((f : Frame) (n k : Standing) (u : Next) → goes f n k u → Falls (laid (tables h.text)) (λ a. laid (tables a)) (with_frame f n) z k u)
     → 0 < work_at tables h [] z
     → ((k : Here) (ls : List Local) (q : ℕ) (fs : List Frame) → steps_work (laid (tables k.text)) q + left_at tables k fs < work_at tables h (frame.Call k ls q ∷ fs) z)
-    → Unwinds goes v h g old new y → (new.left ≤ old.left) × ((new.left < old.left) ⊎ (work_at tables g new.frames y < work_at tables h old.frames z))
+    → Unwinds goes v h g old new y → Less tables h g old z new y
 unwinds tables h g z v goes old new y law some back b = elim b [
   | inl l ↦
       (let n : new.left ≡ old.left = ap (λ s. s.left) (l.2).0 in
@@ -145,33 +157,66 @@ unwinds tables h g z v goes old new y law some back b = elim b [
   ]
 ]
 
+pub done_less : (tables : ExprNo → Table) (h g : Here) (t : Table) (old : Standing) (z : Next) (new : Standing) (y : Next)
+    → z ≡ next.Done → t ≡ tables h.text → Unwinds (GoesOn (laid t)) Undefined h g old new y → Less tables h g old z new y
+done_less tables h g t old z new y k e b =
+    let u : Unwinds (GoesOn (laid (tables h.text))) Undefined h g old new y = subst (λ (a : Table). Unwinds (GoesOn (laid a)) Undefined h g old new y) e b in
+    let r = unwinds tables h g next.Done Undefined (GoesOn (laid (tables h.text))) old new y (λ f n s a d. goes_on_falls (laid (tables h.text)) (λ a. laid (tables a)) f n s a d) (omega arith) (λ i ls q fs. omega arith) u in
+    subst (λ (a : Next). Less tables h g old a new y) (sym k) r
+
 pub done_when : (w : World) (code : Code) (tables : ExprNo → Table) (h g : Here) (t : Table) (old : Standing) (z : Next) (new : Standing) (y : Next)
     → z ≡ next.Done → t ≡ tables h.text → Unwinds (GoesOn (laid t)) Undefined h g old new y → Moves w code tables h g old z new y
 done_when w code tables h g t old z new y k e b =
-    let u : Unwinds (GoesOn (laid (tables h.text))) Undefined h g old new y = subst (λ (a : Table). Unwinds (GoesOn (laid a)) Undefined h g old new y) e b in
-    let r = unwinds tables h g next.Done Undefined (GoesOn (laid (tables h.text))) old new y (λ f n s a d. goes_on_falls (laid (tables h.text)) (λ a. laid (tables a)) f n s a d) (omega arith) (λ i ls q fs. omega arith) u in
-    record { keeps = calls.done_when w code tables h g t old z new y k e b; nodes = r.0; less = subst (λ (a : Next). (new.left < old.left) ⊎ (work_at tables g new.frames y < work_at tables h old.frames a)) (sym k) r.1 }
+    let r = done_less tables h g t old z new y k e b in
+    record { keeps = calls.done_when w code tables h g t old z new y k e b; nodes = r.0; less = r.1 }
+
+pub given_less : (tables : ExprNo → Table) (h g : Here) (t : Table) (v : Value) (old : Standing) (z : Next) (new : Standing) (y : Next)
+    → z ≡ next.Give v → t ≡ tables h.text → Unwinds (λ f. Gives (laid t) f v) v h g old new y → Less tables h g old z new y
+given_less tables h g t v old z new y k e b =
+    let u : Unwinds (λ f. Gives (laid (tables h.text)) f v) v h g old new y = subst (λ (a : Table). Unwinds (λ f. Gives (laid a) f v) v h g old new y) e b in
+    let r = unwinds tables h g (next.Give v) v (λ f. Gives (laid (tables h.text)) f v) old new y (λ f n s a d. gives_falls (laid (tables h.text)) (λ a. laid (tables a)) f v n s a d) (omega arith) (λ i ls q fs. omega arith) u in
+    subst (λ (a : Next). Less tables h g old a new y) (sym k) r
 
 pub given_when : (w : World) (code : Code) (tables : ExprNo → Table) (h g : Here) (t : Table) (v : Value) (old : Standing) (z : Next) (new : Standing) (y : Next)
     → z ≡ next.Give v → t ≡ tables h.text → Unwinds (λ f. Gives (laid t) f v) v h g old new y → Moves w code tables h g old z new y
 given_when w code tables h g t v old z new y k e b =
-    let u : Unwinds (λ f. Gives (laid (tables h.text)) f v) v h g old new y = subst (λ (a : Table). Unwinds (λ f. Gives (laid a) f v) v h g old new y) e b in
-    let r = unwinds tables h g (next.Give v) v (λ f. Gives (laid (tables h.text)) f v) old new y (λ f n s a d. gives_falls (laid (tables h.text)) (λ a. laid (tables a)) f v n s a d) (omega arith) (λ i ls q fs. omega arith) u in
-    record { keeps = calls.given_when w code tables h g t v old z new y k e b; nodes = r.0; less = subst (λ (a : Next). (new.left < old.left) ⊎ (work_at tables g new.frames y < work_at tables h old.frames a)) (sym k) r.1 }
+    let r = given_less tables h g t v old z new y k e b in
+    record { keeps = calls.given_when w code tables h g t v old z new y k e b; nodes = r.0; less = r.1 }
+
+pub stopped_less : (tables : ExprNo → Table) (h g : Here) (t : Table) (old : Standing) (z : Next) (new : Standing) (y : Next)
+    → z ≡ next.Stop → t ≡ tables h.text → Unwinds (Stops (laid t)) Undefined h g old new y → Less tables h g old z new y
+stopped_less tables h g t old z new y k e b =
+    let u : Unwinds (Stops (laid (tables h.text))) Undefined h g old new y = subst (λ (a : Table). Unwinds (Stops (laid a)) Undefined h g old new y) e b in
+    let r = unwinds tables h g next.Stop Undefined (Stops (laid (tables h.text))) old new y (λ f n s a d. stops_falls (laid (tables h.text)) (λ a. laid (tables a)) f n s a d) (omega arith) (λ i ls q fs. omega arith) u in
+    subst (λ (a : Next). Less tables h g old a new y) (sym k) r
 
 pub stopped_when : (w : World) (code : Code) (tables : ExprNo → Table) (h g : Here) (t : Table) (old : Standing) (z : Next) (new : Standing) (y : Next)
     → z ≡ next.Stop → t ≡ tables h.text → Unwinds (Stops (laid t)) Undefined h g old new y → Moves w code tables h g old z new y
 stopped_when w code tables h g t old z new y k e b =
-    let u : Unwinds (Stops (laid (tables h.text))) Undefined h g old new y = subst (λ (a : Table). Unwinds (Stops (laid a)) Undefined h g old new y) e b in
-    let r = unwinds tables h g next.Stop Undefined (Stops (laid (tables h.text))) old new y (λ f n s a d. stops_falls (laid (tables h.text)) (λ a. laid (tables a)) f n s a d) (omega arith) (λ i ls q fs. omega arith) u in
-    record { keeps = calls.stopped_when w code tables h g t old z new y k e b; nodes = r.0; less = subst (λ (a : Next). (new.left < old.left) ⊎ (work_at tables g new.frames y < work_at tables h old.frames a)) (sym k) r.1 }
+    let r = stopped_less tables h g t old z new y k e b in
+    record { keeps = calls.stopped_when w code tables h g t old z new y k e b; nodes = r.0; less = r.1 }
+
+pub repeated_less : (tables : ExprNo → Table) (h g : Here) (t : Table) (old : Standing) (z : Next) (new : Standing) (y : Next)
+    → z ≡ next.Again → t ≡ tables h.text → Unwinds (GoesAgain (laid t)) Undefined h g old new y → Less tables h g old z new y
+repeated_less tables h g t old z new y k e b =
+    let u : Unwinds (GoesAgain (laid (tables h.text))) Undefined h g old new y = subst (λ (a : Table). Unwinds (GoesAgain (laid a)) Undefined h g old new y) e b in
+    let r = unwinds tables h g next.Again Undefined (GoesAgain (laid (tables h.text))) old new y (λ f n s a d. goes_again_falls (laid (tables h.text)) (λ a. laid (tables a)) f n s a d) (omega arith) (λ i ls q fs. omega arith) u in
+    subst (λ (a : Next). Less tables h g old a new y) (sym k) r
 
 pub repeated_when : (w : World) (code : Code) (tables : ExprNo → Table) (h g : Here) (t : Table) (old : Standing) (z : Next) (new : Standing) (y : Next)
     → z ≡ next.Again → t ≡ tables h.text → Unwinds (GoesAgain (laid t)) Undefined h g old new y → Moves w code tables h g old z new y
 repeated_when w code tables h g t old z new y k e b =
-    let u : Unwinds (GoesAgain (laid (tables h.text))) Undefined h g old new y = subst (λ (a : Table). Unwinds (GoesAgain (laid a)) Undefined h g old new y) e b in
-    let r = unwinds tables h g next.Again Undefined (GoesAgain (laid (tables h.text))) old new y (λ f n s a d. goes_again_falls (laid (tables h.text)) (λ a. laid (tables a)) f n s a d) (omega arith) (λ i ls q fs. omega arith) u in
-    record { keeps = calls.repeated_when w code tables h g t old z new y k e b; nodes = r.0; less = subst (λ (a : Next). (new.left < old.left) ⊎ (work_at tables g new.frames y < work_at tables h old.frames a)) (sym k) r.1 }
+    let r = repeated_less tables h g t old z new y k e b in
+    record { keeps = calls.repeated_when w code tables h g t old z new y k e b; nodes = r.0; less = r.1 }
+
+-- what goes by effects, where none is done
+pub refuses_when : (w : World) (code : Code) (tables : ExprNo → Table) (h : Here) (t : Table) (d : Deed) (old : Standing) (z : Next) (new : Standing) (y : Next)
+    → z ≡ next.Deed d → t ≡ tables h.text → m.Refuses w (laid t) d old new y → Moves w code tables h h old z new y
+refuses_when w code tables h t d old z new y k e r =
+    let s : m.Refuses w (laid (tables h.text)) d old new y = subst (λ (u : Table). m.Refuses w (laid u) d old new y) e r in
+    let f : Falls (laid (tables h.text)) (λ a. laid (tables a)) old z new y =
+    subst (λ (u : Next). Falls (laid (tables h.text)) (λ a. laid (tables a)) old u new y) (sym k) (refuses_falls w (laid (tables h.text)) (λ a. laid (tables a)) d old new y s) in
+    record { keeps = refused.refuses_when w code tables h t d old z new y k e r; nodes = f.nodes; less = f.less }
 
 -- ---- moves to the next node
 

@@ -2,6 +2,7 @@
 use Rattle.std.proofs.Common.{◌≡◌, ◌∙◌, ap, sym, refl, inl, inr, ◌⊎◌, ℕ, ◌+◌, ◌*◌, ◌-◌, ◌<◌, ◌≤◌, ◌+ℤ◌, arith, Bool as 𝔹, true, false, List, [], ◌∷◌, length, Option, Some, None}
 use Rattle.qml_base.specs.declared.cause.Cause.TheVariants as cause
 use Rattle.qml_base.specs.declared.numbers.ExprNo.{ExprNo}
+use Rattle.qml_base.specs.declared.numbers.Place.{Place}
 use Rattle.qml_base.specs.declared.names.Home.{Home}
 use Rattle.qml_syntax.specs.declared.operators.Operator.{Operator}
 use Rattle.qml_syntax.specs.declared.literal.Declaration.{Declaration}
@@ -15,6 +16,7 @@ use Rattle.evaluation.specs.declared.came.Evaluated.TheVariants as answer
 use Rattle.js_meaning.specs.Operate.{counts, bounded, on_num}
 use Rattle.js_meaning.specs.Locals.{Units, Held, dead, alive, is_var, local}
 use Rattle.js_meaning.specs.Eval.{most}
+use Rattle.js_frames.specs.declared.frames.Deed.TheVariants as deed
 use Rattle.js_frames.specs.declared.frames.Frame.{Frame}
 use Rattle.js_frames.specs.declared.frames.Frame.TheVariants as frame
 use Rattle.js_frames.specs.declared.frames.Next.{Next}
@@ -31,7 +33,7 @@ use Rattle.js_frames.specs.Standing.{Standing, with_frame, with_locals, without_
 use Rattle.js_frames.specs.Meant.{World, bound_of, operator_at}
 use Rattle.js_frames.specs.Moves.{Turns, Pushes, OrElse, local_in}
 use Rattle.js_frames.specs.Statements.{WritesBy, Writes, VarSets, VarLeaves, VarBegins, Declares, Loops, ForTests, ForLoops, ForUpdatesBy, ForUpdates, BeginsFor, RunsWith, plain_next, RunsOr, is_expr_stmt, RunsCounted, RunsBy, RunsAt, Rests, WhenOn, TestOn, ForTestOn, Takes, GoesOn, Gives, Stops, GoesAgain}
-use Rattle.js_frames.specs.Spots.{TargetsBy, TargetsAt, NameSpot, StepsSpot, SpotBegins, SpotAt, SpotGives, Rebinds, RightBegins, PlainlyFound, FoundBy, is_bound, FoundFor, SpotWrites, Stores, updated_by, Assigns, local_spot}
+use Rattle.js_frames.specs.Spots.{TargetsBy, TargetsAt, NameSpot, StepsSpot, SpotBegins, SpotAt, SpotGives, Rebinds, RightBegins, PlainlyFound, FoundBy, FoundFor, SpotWrites, Stores, updated_by, Assigns, local_spot}
 use Rattle.js_progress.specs.Work.{behind, steps_work, frames_work, work, Leaves, Falls}
 use Rattle.js_progress.proofs.WorkLemmas.{weaker, turns_in, ended_in, frame_in, pushes_in, scoped_in, Reaches, name_in, found_in, member_of_in, element_in, fall, begins, stops, one_less}
 use Rattle.js_progress.proofs.StepFalls.{steps_nodes, Back}
@@ -226,31 +228,28 @@ spot_gives_in w c t x (spot.Element v i) old new y h = element_in w c t to.Back 
 right_in : (c : Laid) (t : ExprNo → Laid) (o : Option Operator) (v : Value) (there : Spot) (q : ℕ) (old new : Standing) (y : Next) → RightBegins c o v there q old new y → Leaves c t (3 + frames_work c t old.frames) old new y
 right_in c t o v there q old new y h = frame_in c t _ (frame.Assigned o v there) (next.Targets h.0) old new y h.2 h.3 (omega arith)
 
-plainly_in : (c : Laid) (t : ExprNo → Laid) (b : 𝔹) (there : Spot) (q : ℕ) (old new : Standing) (y : Next) → PlainlyFound c b there q old new y → Leaves c t (3 + frames_work c t old.frames) old new y
-plainly_in c t true there q old new y h = elim h [
-  | inl l ↦ ended_in c t _ (answer.Threw cause.Nodes) old new y l.1
-  | inr r ↦ ended_in c t _ (answer.Threw cause.Call) old new y r.1
-]
-plainly_in c t false there q old new y h = right_in c t None Undefined there q old new y h
+plainly_in : (c : Laid) (t : ExprNo → Laid) (b : Option Place) (there : Spot) (q : ℕ) (old new : Standing) (y : Next) → PlainlyFound c b there q old new y → Leaves c t (3 + frames_work c t old.frames) old new y
+plainly_in c t (Some p) there q old new y h = frame_in c t _ (frame.Assigned None Undefined there) (next.Deed (deed.Rebind p)) old new y h.0 h.1 (omega arith)
+plainly_in c t None there q old new y h = right_in c t None Undefined there q old new y h
 
 -- what stands in a spot is read behind a new frame
 read_behind : (w : World) (c : Laid) (t : ExprNo → Laid) (x : Home) (f : Frame) (there : Spot) (old new : Standing) (y : Next) → SpotGives w c x there (with_frame f old) new y → Leaves c t (2 + frames_work c t (f ∷ old.frames)) old new y
 read_behind w c t x f there old new y h = let a = spot_gives_in w c t x there (with_frame f old) new y h in record { nodes = a.nodes; left = a.left }
 
-found_by_falls : (w : World) (c : Laid) (t : ExprNo → Laid) (x : Home) (o : Option Operator) (b : 𝔹) (there : Spot) (q : ℕ) (old new : Standing) (y : Next) → FoundBy w c x o b there q old new y → Falls c t (with_frame (frame.Target q) old) (next.Found there) new y
+found_by_falls : (w : World) (c : Laid) (t : ExprNo → Laid) (x : Home) (o : Option Operator) (b : Option Place) (there : Spot) (q : ℕ) (old new : Standing) (y : Next) → FoundBy w c x o b there q old new y → Falls c t (with_frame (frame.Target q) old) (next.Found there) new y
 found_by_falls w c t x None b there q old new y h = fall (plainly_in c t b there q old new y h) (omega arith) (omega arith)
 found_by_falls w c t x (Some o) b there q old new y h = fall (read_behind w c t x (frame.Updated there q) there old new y h) (omega arith) (omega arith)
 
 pub found_falls : (w : World) (c : Laid) (t : ExprNo → Laid) (x : Home) (f : Frame) (there : Spot) (old new : Standing) (y : Next) → FoundFor w c x f there old new y → Falls c t (with_frame f old) (next.Found there) new y
-found_falls w c t x (frame.Target q) there old new y h = found_by_falls w c t x (operator_at c q) (is_bound (bound_of (c.rest q))) there q old new y h
+found_falls w c t x (frame.Target q) there old new y h = found_by_falls w c t x (operator_at c q) (bound_of (c.rest q)) there q old new y h
 found_falls w c t x (frame.Bump z g) there old new y h = fall (read_behind w c t x (frame.Bumped z g there) there old new y h) (omega arith) (omega arith)
 found_falls w c t x _ there old new y h = absurd h
 
-spot_writes_in : (c : Laid) (t : ExprNo → Laid) (there : Spot) (v r : Value) (old new : Standing) (y : Next) → SpotWrites c there v (next.Back r) old new y → Reaches c t to.Back old new y
+spot_writes_in : (c : Laid) (t : ExprNo → Laid) (there : Spot) (v r : Value) (old new : Standing) (y : Next) → SpotWrites c there v r old new y → Reaches c t to.Back old new y
 spot_writes_in c t (spot.Local p) v r old new y h = writes_in c t _ v (next.Back r) old new y h
-spot_writes_in c t (spot.Named p f) v r old new y h = ended_in c t _ (answer.Threw cause.Call) old new y h
-spot_writes_in c t (spot.Member d p) v r old new y h = ended_in c t _ (answer.Threw cause.Call) old new y h
-spot_writes_in c t (spot.Element d i) v r old new y h = ended_in c t _ (answer.Threw cause.Call) old new y h
+spot_writes_in c t (spot.Named p f) v r old new y h = frame_in c t _ (frame.Assigned None r (spot.Named p f)) (next.Deed (deed.Write v)) old new y h.0 h.1 (omega arith)
+spot_writes_in c t (spot.Member d p) v r old new y h = frame_in c t _ (frame.Assigned None r (spot.Member d p)) (next.Deed (deed.Write v)) old new y h.0 h.1 (omega arith)
+spot_writes_in c t (spot.Element d i) v r old new y h = frame_in c t _ (frame.Assigned None r (spot.Element d i)) (next.Deed (deed.Write v)) old new y h.0 h.1 (omega arith)
 
 stores_in : (c : Laid) (t : ExprNo → Laid) (there : Spot) (e : Ended) (back : Value → Value) (old new : Standing) (y : Next) → Stores c there e back old new y → Reaches c t to.Back old new y
 stores_in c t there (by.Value v) back old new y h = spot_writes_in c t there v (back v) old new y h

@@ -26,6 +26,10 @@ use Rattle.js_frames.specs.declared.frames.Next.TheVariants as next
 use Rattle.js_frames.specs.declared.frames.Before.{Before}
 use Rattle.js_frames.specs.declared.frames.Before.TheVariants as stands
 use Rattle.js_frames.specs.declared.frames.Callee.{Callee}
+use Rattle.js_frames.specs.declared.frames.Callee.TheVariants as calls
+use Rattle.js_frames.specs.declared.frames.Deed.{Deed}
+use Rattle.js_frames.specs.declared.frames.Deed.TheVariants as deed
+use Rattle.js_meaning.specs.Rows.{at_place}
 use Rattle.js_frames.specs.declared.frames.Purpose.TheVariants as purpose
 use Rattle.js_frames.specs.declared.frames.To.{To}
 use Rattle.js_frames.specs.declared.frames.To.TheVariants as to
@@ -35,8 +39,8 @@ use Rattle.js_frames.specs.Standing.{Standing, with_frame, without_node}
 use Rattle.js_frames.specs.Meant.{World, callee_of}
 use Rattle.js_frames.specs.Moves as m
 use Rattle.js_frames.specs.Moves.{Turns, Pushes, FoundGives, Counts, BeginsSteps, Begins, BeginsCounted, NameTyped, TypedName, typed_found, OperandSigned, OperandBegins, NamedMember, MemberOfName, MemberNext, ElementNext, called_at, method_called, NamedCallee, MemberCallee, ValueCallee, CalleeNext, StepNext, ElementSpot, SpotNext, StepBy, is_spot, RoundedFirst, FirstBy, LinkOn, ChainOn, OtherChoice, ChooseOn, RightOn, Resumes, ValueBefore}
-use Rattle.js_progress.specs.Work.{behind, steps_work, before_work, enter_work, args_work, frames_work, work, Leaves, Falls}
-use Rattle.js_progress.proofs.WorkLemmas.{weaker, turns_in, ended_in, frame_in, pushes_in, next_of_in, Reaches, arrives_in, read_in, found_in, local_in, name_in, member_in, element_in, call_in, all_called_in, all_listed_in, fields_from_in, value_in, fall, begins, stops, one_less}
+use Rattle.js_progress.specs.Work.{behind, steps_work, before_work, enter_work, args_work, reach_work, frames_work, work, Leaves, Falls}
+use Rattle.js_progress.proofs.WorkLemmas.{weaker, turns_in, ended_in, frame_in, pushes_in, next_of_in, Reaches, arrives_in, read_in, found_in, local_in, name_in, member_in, element_in, part_in, call_in, all_called_in, all_listed_in, fields_from_in, value_in, fall, begins, stops, one_less}
 
 -- ---- nodes
 
@@ -136,7 +140,7 @@ of_name_in w c t x r q false old new y h =
 
 -- at most what is left behind a step of a part
 abbrev Stepped : Laid → (ExprNo → Laid) → ℕ → Before → Standing → Standing → Next → Type 0
-Stepped c t q b old new y = Leaves c t (args_work c q + before_work b + frames_work c t old.frames) old new y
+Stepped c t q b old new y = Leaves c t (reach_work c q + before_work b + frames_work c t old.frames) old new y
 
 -- what stands before gives its value first
 valued : (w : World) (c : Laid) (t : ExprNo → Laid) (x : Home) (b : Before) (p q : ℕ) (old new : Standing) (y : Next) → behind c p ≡ 1 + behind c q → before_work b ≡ 1 → ValueBefore w c x b (to.Step p) old new y → Stepped c t q b old new y
@@ -180,7 +184,7 @@ named_callee_in w c t p q _ old new y h = called_in c t _ q old new y h
 member_callee_in : (w : World) (c : Laid) (t : ExprNo → Laid) (may : 𝔹) (n q : ℕ) (f : Found) (old new : Standing) (y : Next) → MemberCallee w may n q f old new y → Reaches c t (to.Nothing q) old new y
 member_callee_in w c t may n q (found.Method o k) old new y h = method_in c t o k n q old new y h
 member_callee_in w c t may n q (found.Cell k) old new y h = read_in w c t (to.Nothing q) k old new y h
-member_callee_in w c t may n q (found.Body e o) old new y h = called_in c t _ q old new y h
+member_callee_in w c t may n q (found.Body e o) old new y h = turns_in c t _ (next.Deed (deed.Reach e o may q)) old new y h (omega arith)
 member_callee_in w c t may n q (found.Signal o i) old new y h = called_in c t _ q old new y h
 member_callee_in w c t may n q _ old new y h = called_in c t _ q old new y h
 
@@ -306,3 +310,18 @@ resumed_falls w c t (frame.All purpose.List vs p) v old new y h = fall (all_list
 resumed_falls w c t (frame.All (purpose.Call f q) vs p) v old new y h = fall (all_called_in w c t f q _ p old new y h) (omega arith) (omega arith)
 resumed_falls w c t (frame.Field es k p) v old new y h = fall (fields_from_in c t _ p old new y h) (omega arith) (omega arith)
 resumed_falls w c t _ v old new y h = absurd h
+
+-- ---- what goes by effects, where none is done
+
+pub refuses_falls : (w : World) (c : Laid) (t : ExprNo → Laid) (d : Deed) (old new : Standing) (y : Next) → m.Refuses w c d old new y → Falls c t old (next.Deed d) new y
+refuses_falls w c t (deed.Reach e o true q) old new y h = fall (turns_in c t (args_work c q + frames_work c t old.frames) (next.Args (calls.Body e o) q) old new y h (omega arith)) (omega arith) (omega arith)
+refuses_falls w c t (deed.Reach e o false q) old new y h = fall (turns_in c t (args_work c q + frames_work c t old.frames) (next.Args calls.Nothing q) old new y h (omega arith)) (omega arith) (omega arith)
+refuses_falls w c t (deed.Emit o i vs q) old new y h = stops c t (answer.Threw cause.Call) old new (next.Deed (deed.Emit o i vs q)) y h (omega arith)
+refuses_falls w c t (deed.Read o k p vs q) old new y h = fall (part_in w c t (to.Step q) (name_of c p) k (at_place vs 0) old new y h) (omega arith) (omega arith)
+refuses_falls w c t (deed.Do o p vs q) old new y h = stops c t (answer.Threw cause.Call) old new (next.Deed (deed.Do o p vs q)) y h (omega arith)
+refuses_falls w c t (deed.Log vs q) old new y h = stops c t (answer.Threw cause.Call) old new (next.Deed (deed.Log vs q)) y h (omega arith)
+refuses_falls w c t (deed.Write v) old new y h = stops c t (answer.Threw cause.Call) old new (next.Deed (deed.Write v)) y h (omega arith)
+refuses_falls w c t (deed.Rebind p) old new y h = elim h [
+  | inl l ↦ stops c t (answer.Threw cause.Nodes) old new (next.Deed (deed.Rebind p)) y l.1 (omega arith)
+  | inr r ↦ stops c t (answer.Threw cause.Call) old new (next.Deed (deed.Rebind p)) y r.1 (omega arith)
+]

@@ -25,6 +25,7 @@ use Rattle.js_frames.specs.declared.frames.Before.{Before}
 use Rattle.js_frames.specs.declared.frames.Before.TheVariants as stands
 use Rattle.js_frames.specs.declared.frames.Callee.{Callee}
 use Rattle.js_frames.specs.declared.frames.Callee.TheVariants as calls
+use Rattle.js_frames.specs.declared.frames.Deed.TheVariants as deed
 use Rattle.js_frames.specs.declared.frames.Purpose.TheVariants as purpose
 use Rattle.js_frames.specs.declared.frames.To.{To}
 use Rattle.js_frames.specs.declared.frames.To.TheVariants as to
@@ -35,7 +36,7 @@ use Rattle.js_frames.specs.Standing.{Standing, with_frame, without_node}
 use Rattle.js_frames.specs.Meant.{World}
 use Rattle.js_frames.specs.Moves.{Turns, threw, Pushes, next_of, arrive, arrive_ended, arrive_seen, arrive_part, ReadGives, FoundGives, local_next, OrElse, NameGives, MemberGives, MemberOf, ElementOf, PartGives, Finishes, AllFrom, FieldBegins, FieldsFrom, ValueBefore}
 use Rattle.js_frames.specs.Statements.{Scoped}
-use Rattle.js_progress.specs.Work.{behind, steps_work, enter_work, args_work, frames_work, work, Leaves, Falls}
+use Rattle.js_progress.specs.Work.{behind, steps_work, enter_work, args_work, reach_work, frames_work, work, Leaves, Falls}
 
 -- ---- single moves
 
@@ -79,7 +80,7 @@ to_work c to.Back = 2
 to_work c (to.Step p) = steps_work c p
 to_work c (to.Member p) = steps_work c p + 1
 to_work c (to.Spot p) = 2
-to_work c (to.Nothing p) = args_work c p
+to_work c (to.Nothing p) = reach_work c p
 
 -- at most what is left where a value goes
 abbrev pub Reaches : Laid → (ExprNo → Laid) → To → Standing → Standing → Next → Type 0
@@ -177,7 +178,7 @@ part_work c t fs g n z cell (Some looped) = omega arith
 part_work c t fs g n z cell (Some past) = omega arith
 part_work c t fs g n z cell None = omega arith
 
-part_in : (w : World) (c : Laid) (t : ExprNo → Laid) (g : To) (n : List ℕ) (cell : CellNo) (v : Value) (old new : Standing) (y : Next) → PartGives w g n cell v old new y → Reaches c t g old new y
+pub part_in : (w : World) (c : Laid) (t : ExprNo → Laid) (g : To) (n : List ℕ) (cell : CellNo) (v : Value) (old new : Standing) (y : Next) → PartGives w g n cell v old new y → Reaches c t g old new y
 part_in w c t g n cell (Num z) old new y h = seen_in c t (to_work c g + frames_work c t old.frames) (arrive_part g n z cell (w.view cell)) cell old new y h.0 h.1 (part_work c t old.frames g n z cell (w.view cell))
 part_in w c t g n cell _ old new y h = throws_in c t g cause.Kind old new y h
 
@@ -186,13 +187,13 @@ stepped_in c t q old new y h = weaker h (omega arith)
 
 pub call_in : (w : World) (c : Laid) (t : ExprNo → Laid) (f : Callee) (q : ℕ) (vs : List Value) (old new : Standing) (y : Next) → Finishes w c (purpose.Call f q) vs old new y → Leaves c t (enter_work c q + frames_work c t old.frames) old new y
 call_in w c t (calls.Body e o) q vs old new y h = turns_in c t (enter_work c q + frames_work c t old.frames) (next.Enter e o vs q) old new y h (omega arith)
-call_in w c t (calls.Signal o i) q vs old new y h = ended_in c t (enter_work c q + frames_work c t old.frames) (answer.Threw cause.Call) old new y h
-call_in w c t (calls.Reading o k p) q vs old new y h = stepped_in c t q old new y (part_in w c t (to.Step q) (name_of c p) k (at_place vs 0) old new y h)
-call_in w c t (calls.Doing o p) q vs old new y h = ended_in c t (enter_work c q + frames_work c t old.frames) (answer.Threw cause.Call) old new y h
+call_in w c t (calls.Signal o i) q vs old new y h = turns_in c t (enter_work c q + frames_work c t old.frames) (next.Deed (deed.Emit o i vs q)) old new y h (omega arith)
+call_in w c t (calls.Reading o k p) q vs old new y h = turns_in c t (enter_work c q + frames_work c t old.frames) (next.Deed (deed.Read o k p vs q)) old new y h (omega arith)
+call_in w c t (calls.Doing o p) q vs old new y h = turns_in c t (enter_work c q + frames_work c t old.frames) (next.Deed (deed.Do o p vs q)) old new y h (omega arith)
 call_in w c t (calls.Method v p) q vs old new y h = stepped_in c t q old new y (arrive_ended_in c t (to.Step q) (method_of v (name_of c p) vs) old new y h)
 call_in w c t (calls.Math p) q vs old new y h = stepped_in c t q old new y (arrive_ended_in c t (to.Step q) (math_method (name_of c p) vs) old new y h)
 call_in w c t calls.Text q vs old new y h = stepped_in c t q old new y (arrive_ended_in c t (to.Step q) (text_from vs) old new y h)
-call_in w c t calls.Log q vs old new y h = ended_in c t (enter_work c q + frames_work c t old.frames) (answer.Threw cause.Call) old new y h
+call_in w c t calls.Log q vs old new y h = turns_in c t (enter_work c q + frames_work c t old.frames) (next.Deed (deed.Log vs q)) old new y h (omega arith)
 call_in w c t calls.Binding q vs old new y h = ended_in c t (enter_work c q + frames_work c t old.frames) (answer.Threw cause.Kind) old new y h
 call_in w c t calls.Nothing q vs old new y h = ended_in c t (enter_work c q + frames_work c t old.frames) (answer.Threw cause.Call) old new y h
 

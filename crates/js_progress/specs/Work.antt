@@ -1,6 +1,8 @@
 -- How much a machine may do before it begins the next node: each move that begins none leaves less.
 use Rattle.std.specs.Prelude.{◌≡◌, ◌⊎◌, ℕ, ◌+◌, ◌*◌, ◌<◌, ◌≤◌, List, [], ◌∷◌, length}
 use Rattle.qml_base.specs.declared.numbers.ExprNo.{ExprNo}
+use Rattle.js_frames.specs.declared.frames.Deed.{Deed}
+use Rattle.js_frames.specs.declared.frames.Deed.TheVariants as deed
 use Rattle.js_frames.specs.declared.frames.Frame.{Frame}
 use Rattle.js_frames.specs.declared.frames.Frame.TheVariants as frame
 use Rattle.js_frames.specs.declared.frames.Next.{Next}
@@ -17,15 +19,19 @@ behind c p = length (c.rest p)
 
 -- the steps behind a place, with a value before them
 abbrev pub steps_work : Laid → ℕ → ℕ
-steps_work c p = 8 * behind c p + 3
+steps_work c p = 9 * behind c p + 3
 
 -- the call of a body, with the steps behind it
 abbrev pub enter_work : Laid → ℕ → ℕ
-enter_work c q = 8 * behind c q + 9
+enter_work c q = 9 * behind c q + 9
 
 -- arguments, and the call behind them
 abbrev pub args_work : Laid → ℕ → ℕ
-args_work c q = 8 * behind c q + 10
+args_work c q = 9 * behind c q + 10
+
+-- a document's function that is reached, and its call
+abbrev pub reach_work : Laid → ℕ → ℕ
+reach_work c q = 9 * behind c q + 11
 
 -- what stands before a step gives a value first, if it is none
 abbrev pub before_work : Before → ℕ
@@ -69,6 +75,15 @@ frames_work c t [] = 0
 frames_work c t (frame.Call h ls q ∷ fs) = steps_work (t h.text) q + frames_work (t h.text) t fs
 frames_work c t (f ∷ fs) = frame_work c f + frames_work c t fs
 
+abbrev pub deed_work : Laid → (ExprNo → Laid) → List Frame → Deed → ℕ
+deed_work c t fs (deed.Reach e o b q) = reach_work c q + frames_work c t fs
+deed_work c t fs (deed.Emit o i vs q) = enter_work c q + frames_work c t fs
+deed_work c t fs (deed.Read o h p vs q) = enter_work c q + frames_work c t fs
+deed_work c t fs (deed.Do o p vs q) = enter_work c q + frames_work c t fs
+deed_work c t fs (deed.Log vs q) = enter_work c q + frames_work c t fs
+deed_work c t fs (deed.Write v) = 1 + frames_work c t fs
+deed_work c t fs (deed.Rebind p) = 1 + frames_work c t fs
+
 -- a node is begun next at `Begin` and `Spot`, whatever the frames are
 abbrev pub work : Laid → (ExprNo → Laid) → List Frame → Next → ℕ
 work c t fs (next.Ended o) = 0
@@ -88,6 +103,7 @@ work c t fs next.Done = 4 + frames_work c t fs
 work c t fs (next.Give v) = 3 + frames_work c t fs
 work c t fs next.Stop = 3 + frames_work c t fs
 work c t fs next.Again = 3 + frames_work c t fs
+work c t fs (next.Deed d) = deed_work c t fs d
 
 -- a move leaves at most so much
 pub record Leaves (c : Laid) (t : ExprNo → Laid) (n : ℕ) (old new : Standing) (y : Next) : Type 0 where

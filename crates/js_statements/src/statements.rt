@@ -10,6 +10,7 @@ ghost use Rattle.js_locals.specs.Scopes.{scopes_of};
 ghost use Rattle.js_frames.specs.Standing.{Standing, standing};
 ghost use Rattle.js_frames.specs.Statements.{Adds, Scoped, Puts, Writes, VarSets, VarLeaves, NoValue, VarBegins, Declares, Loops, ForTests, ForLoops, ForUpdates, first_scope, ForDeclares, BeginsFor, Opens, RunsWith, plain_next, Runs, is_expr_stmt, RunsCounted, RunsBy, RunsAt, Rests, WhenOn, TestOn, ForTestOn, Takes};
 
+use evaluation::Evaluated;
 use js_frames::{Frame, Machine, Next};
 use js_locals::{
     Local, Writable, declare, first_names, first_part, for_parts, is_expression, is_var,
@@ -52,6 +53,15 @@ fn puts(
     Ok(next)
 }
 
+/// A throw in place of what would come next with this value.
+fn in_place_of(next: Next, value: Value, cause: Cause) -> Next
+    ensures { result ≡ Next.Ended (Evaluated.Threw cause) }
+{
+    let _next = next;
+    let _value = value;
+    threw(cause)
+}
+
 /// Assigns to a local.
 pub fn writes(
     machine: &mut Machine,
@@ -64,8 +74,8 @@ pub fn writes(
 {
     match writable_in(&machine.locals, tree, name)? {
         Writable::Yes => puts(machine, tree, name, true, value, next),
-        Writable::Readonly => Ok(threw(Cause::Readonly)),
-        Writable::Nothing => Ok(threw(Cause::Name)),
+        Writable::Readonly => Ok(in_place_of(next, value, Cause::Readonly)),
+        Writable::Nothing => Ok(in_place_of(next, value, Cause::Name)),
     }
 }
 

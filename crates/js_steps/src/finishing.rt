@@ -10,7 +10,7 @@ ghost use Rattle.js_frames.specs.Meant.{callee_of};
 ghost use Rattle.js_frames.specs.Moves.{Turns, arrive_part, PartGives, Finishes, AllFrom, RoundedFirst, FirstBy, Args as ArgsMove};
 
 use evaluation::{Args, Evaluated, Seen, View};
-use js_frames::{Callee, Frame, Machine, Next, Purpose, To};
+use js_frames::{Callee, Deed, Frame, Machine, Next, Purpose, To};
 use js_locals::{first_part, name_of, next_part, node_at};
 use js_looking::{arrive, arrive_ended, next_of, pushed, threw};
 use js_meaning::Rounding;
@@ -64,7 +64,28 @@ fn part_given<V: View>(
     }
 }
 
-/// Calls what is called with all arguments, where it is no body.
+/// Calls a method that reads a hidden cell, with the place of its name and these arguments.
+pub fn hidden_read<V: View>(
+    machine: &mut Machine,
+    alloc: Global,
+    tree: &Tree,
+    view: &V,
+    cell: CellNo,
+    name: usize,
+    arguments: Args,
+    at: usize,
+) -> Result<Next, NoMemory>
+    ensures { IfOk result (λ y. PartGives (record { names = V.names view.now; view = V.seen view.now }) (To.Step at) (name_of (laid tree.now) name) cell (at_place arguments 0) (standing machine.old) (standing machine.new) y) }
+{
+    let name = name_of(tree, name)?;
+    let absent = Value::Undefined;
+    let first = first_of(arguments.values(), &absent);
+    let next = part_given(machine, alloc, view, To::Step(at), name, cell, first)?;
+    machine.frames.keep_arguments(arguments);
+    Ok(next)
+}
+
+/// Calls a function of values with all arguments, or what can't be called.
 fn called<V: View>(
     machine: &mut Machine,
     alloc: Global,
@@ -77,17 +98,10 @@ fn called<V: View>(
     ensures { IfOk result (λ y. Finishes (record { names = V.names view.now; view = V.seen view.now }) (laid tree.now) (Purpose.Call callee at) arguments.now (standing machine.old) (standing machine.new) y) }
 {
     match callee {
-        Callee::Body(_, _) => Err(NoMemory),
-        Callee::Signal(_, _) | Callee::Doing(_, _) | Callee::Log | Callee::Nothing => {
-            Ok(threw(Cause::Call))
-        }
+        Callee::Body(_, _) | Callee::Signal(_, _) | Callee::Reading(_, _, _) => Err(NoMemory),
+        Callee::Doing(_, _) | Callee::Log => Err(NoMemory),
+        Callee::Nothing => Ok(threw(Cause::Call)),
         Callee::Binding => Ok(threw(Cause::Kind)),
-        Callee::Reading(_, cell, place) => {
-            let name = name_of(tree, place)?;
-            let absent = Value::Undefined;
-            let first = first_of(arguments, &absent);
-            part_given(machine, alloc, view, To::Step(at), name, cell, first)
-        }
         Callee::Method(value, place) => {
             let name = name_of(tree, place)?;
             let ended = method(alloc, &value, name, arguments)?;
@@ -118,6 +132,14 @@ fn call_finished<V: View>(
 {
     match callee {
         Callee::Body(body, object) => Ok(Next::Enter(body, object, arguments, at)),
+        Callee::Signal(object, signal) => {
+            Ok(Next::Deed(Deed::Emit(object, signal, arguments, at)))
+        }
+        Callee::Reading(object, cell, name) => {
+            Ok(Next::Deed(Deed::Read(object, cell, name, arguments, at)))
+        }
+        Callee::Doing(object, name) => Ok(Next::Deed(Deed::Do(object, name, arguments, at))),
+        Callee::Log => Ok(Next::Deed(Deed::Log(arguments, at))),
         other => {
             let next = called(machine, alloc, tree, view, other, at, arguments.values())?;
             machine.frames.keep_arguments(arguments);

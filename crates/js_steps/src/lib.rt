@@ -9,6 +9,6 @@ mod resuming;
 mod stepping;
 
 pub use beginning::{begun, is_name, signs, steps_by};
-pub use finishing::arguments;
+pub use finishing::{arguments, hidden_read};
 pub use resuming::{choose_on, link_on, operand, operated, resumed, right_on};
 pub use stepping::stepped;

@@ -10,7 +10,7 @@ ghost use Rattle.js_frames.specs.Standing.{standing};
 ghost use Rattle.js_frames.specs.Moves.{arrive, ValueBefore, NamedMember, MemberOfName, MemberNext, ElementNext, method_called, NamedCallee, MemberCallee, ValueCallee, script_callee, global_callee, CalleeNext, StepNext, ElementSpot, SpotNext, ends_steps, is_spot, StepBy, Steps};
 
 use evaluation::{Evaluated, View};
-use js_frames::{Before, Callee, Frame, Machine, Next, To};
+use js_frames::{Before, Callee, Deed, Frame, Machine, Next, To};
 use js_locals::{first_part, name_of, next_part, node_at};
 use js_looking::{
     arrive, found_member, found_value, local_value, member, name_value, pushed, read_cell, threw,
@@ -300,13 +300,7 @@ fn member_callee<V: View>(
     ensures { IfOk result (λ y. MemberCallee (record { names = V.names view.now; view = V.seen view.now }) may name at found (standing machine.old) (standing machine.new) y) }
 {
     match found {
-        Found::Body(body, object) => {
-            if may {
-                Ok(Next::Args(Callee::Body(body, object), at))
-            } else {
-                Ok(Next::Args(Callee::Nothing, at))
-            }
-        }
+        Found::Body(body, object) => Ok(Next::Deed(Deed::Reach(body, object, may, at))),
         Found::Signal(object, signal) => Ok(Next::Args(Callee::Signal(object, signal), at)),
         Found::Method(object, cell) => Ok(method_next(object, cell, name, at)),
         Found::Cell(cell) => read_cell(machine, alloc, view, To::Nothing(at), cell),

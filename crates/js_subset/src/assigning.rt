@@ -1,6 +1,6 @@
 //! Assignments.
 
-ghost use Rattle.std.specs.Prelude.{◌≡◌, true, ◌∷◌, ◌+ℤ◌, IfOk};
+ghost use Rattle.std.specs.Prelude.{◌≡◌, true, ◌∷◌, ◌+ℤ◌, None, IfOk};
 ghost use Rattle.qml_syntax.specs.Opened.{node_of};
 ghost use Rattle.js_meaning.specs.Operate.{bounded, on_num};
 ghost use Rattle.js_meaning.specs.Assigning.{operator_of};
@@ -9,17 +9,17 @@ ghost use Rattle.js_frames.specs.Standing.{standing, with_frame};
 ghost use Rattle.js_frames.specs.Meant.{bound_of, chosen_by, operator_at};
 ghost use Rattle.js_locals.specs.Scopes.{held_of};
 ghost use Rattle.js_frames.specs.Moves.{local_in, OrElse, Turns};
-ghost use Rattle.js_frames.specs.Spots.{TargetsAt, local_spot, NameSpot, StepsSpot, SpotBegins, SpotAt, SpotGives, Rebinds, RightBegins, PlainlyFound, FoundBy, is_bound, FoundFor, SpotWrites, Stores, updated_by, Assigns};
+ghost use Rattle.js_frames.specs.Spots.{TargetsAt, local_spot, NameSpot, StepsSpot, SpotBegins, SpotAt, SpotGives, Rebinds, RightBegins, PlainlyFound, FoundBy, FoundFor, SpotWrites, Stores, updated_by, Assigns};
 
-use crate::binding::is_bound;
+use crate::binding::bound;
 use evaluation::{Ended, Evaluated, View};
-use js_frames::{Frame, Gives, Machine, Next, Spot, To};
+use js_frames::{Deed, Frame, Gives, Machine, Next, Spot, To};
 use js_locals::{Local, copied, find, first_part, is_expression, name_of, next_part, node_at};
 use js_looking::{element, found_value, member, name_value, threw};
 use js_operators::operate;
 use js_statements::writes;
 use js_steps::{is_name, steps_by};
-use qml_base::{Cause, Home};
+use qml_base::{Cause, Home, Place};
 use qml_syntax::{Assignment, Node, Operator, Tree};
 use qml_text::{NoMemory, Text};
 use qml_value::{Num, Value};
@@ -106,6 +106,7 @@ fn local_spot(at: usize, local: &Local) -> Option<Next>
         Local::Scope => None,
         Local::Dead(_) => Some(threw(Cause::Name)),
         Local::Alive(_, _, _) => Some(Next::Found(Spot::Local(at))),
+        Local::Given(_, _, _) => Some(Next::Found(Spot::Local(at))),
     }
 }
 
@@ -252,15 +253,14 @@ fn copied_spot(alloc: Global, spot: &Spot) -> Result<Spot, NoMemory>
 
 // ---- a spot that is found
 
-/// A `Qt.binding` is assigned: three nodes more, and then no assignment outside a body.
-fn rebinds(machine: &Machine) -> Next
-    ensures { Rebinds (standing machine.now) (standing machine.now) result }
+/// A `Qt.binding` is assigned, whose call stands at this place of the text.
+fn rebinds(machine: &mut Machine, spot: Spot, place: Place) -> Result<Next, NoMemory>
+    ensures { IfOk result (λ y. Rebinds spot place (standing machine.old) (standing machine.new) y) }
 {
-    if machine.left < 3 {
-        threw(Cause::Nodes)
-    } else {
-        threw(Cause::Call)
-    }
+    machine
+        .frames
+        .push(Frame::Assigned(None, Value::Undefined, spot))?;
+    Ok(Next::Deed(Deed::Rebind(place)))
 }
 
 /// Begins the right side of an assignment.
@@ -287,16 +287,15 @@ fn right_begun(
 fn plainly_found(
     machine: &mut Machine,
     tree: &Tree,
-    bound: bool,
+    bound: Option<Place>,
     spot: Spot,
     target: usize,
 ) -> Result<Next, NoMemory>
     ensures { IfOk result (λ y. PlainlyFound (laid tree.now) bound spot target (standing machine.old) (standing machine.new) y) }
 {
-    if bound {
-        Ok(rebinds(machine))
-    } else {
-        right_begun(machine, tree, None, Value::Undefined, spot, target)
+    match bound {
+        Some(place) => rebinds(machine, spot, place),
+        None => right_begun(machine, tree, None, Value::Undefined, spot, target),
     }
 }
 
@@ -331,7 +330,7 @@ fn target_found<V: View>(
 {
     match operator_at(tree, target)? {
         None => {
-            let bound = is_bound(tree, target)?;
+            let bound = bound(tree, target)?;
             plainly_found(machine, tree, bound, spot, target)
         }
         Some(_) => {
@@ -372,27 +371,43 @@ pub(crate) fn found_for<V: View>(
 
 // ---- what is put there
 
-/// Puts a value where it is assigned to, and then gives another; outside a body these are locals alone.
+/// A value is put outside, in this spot, and another goes back then.
+fn put_outside(
+    machine: &mut Machine,
+    spot: Spot,
+    value: Value,
+    back: Value,
+) -> Result<Next, NoMemory>
+    ensures { IfOk result (λ y. (standing machine.new ≡ with_frame (Frame.Assigned None back spot) (standing machine.old)) × (y ≡ Next.Deed (Deed.Write value))) }
+{
+    machine.frames.push(Frame::Assigned(None, back, spot))?;
+    Ok(Next::Deed(Deed::Write(value)))
+}
+
+/// Puts a value where it is assigned to, and then gives another.
 fn spot_written(
     machine: &mut Machine,
-    alloc: Global,
     tree: &Tree,
-    spot: &Spot,
-    value: &Value,
-    back: &Value,
+    spot: Spot,
+    value: Value,
+    back: Value,
 ) -> Result<Next, NoMemory>
-    ensures { IfOk result (λ y. SpotWrites (laid tree.now) spot.now value.now (Next.Back back.now) (standing machine.old) (standing machine.new) y) }
+    ensures { IfOk result (λ y. SpotWrites (laid tree.now) spot value back (standing machine.old) (standing machine.new) y) }
 {
     match spot {
         Spot::Local(place) => {
-            let name = name_of(tree, *place)?;
-            let value = copied(alloc, value)?;
-            let back = copied(alloc, back)?;
+            let name = name_of(tree, place)?;
             writes(machine, tree, name, value, Next::Back(back))
         }
-        Spot::Named(_, _) => Ok(threw(Cause::Call)),
-        Spot::Member(_, _) => Ok(threw(Cause::Call)),
-        Spot::Element(_, _) => Ok(threw(Cause::Call)),
+        Spot::Named(place, found) => {
+            put_outside(machine, Spot::Named(place, found), value, back)
+        }
+        Spot::Member(held, place) => {
+            put_outside(machine, Spot::Member(held, place), value, back)
+        }
+        Spot::Element(held, index) => {
+            put_outside(machine, Spot::Element(held, index), value, back)
+        }
     }
 }
 
@@ -401,14 +416,17 @@ fn stored(
     machine: &mut Machine,
     alloc: Global,
     tree: &Tree,
-    spot: &Spot,
-    ended: &Ended,
+    spot: Spot,
+    ended: Ended,
 ) -> Result<Next, NoMemory>
-    ensures { IfOk result (λ y. Stores (laid tree.now) spot.now ended.now (λ u. u) (standing machine.old) (standing machine.new) y) }
+    ensures { IfOk result (λ y. Stores (laid tree.now) spot ended (λ u. u) (standing machine.old) (standing machine.new) y) }
 {
     match ended {
-        Ended::Value(value) => spot_written(machine, alloc, tree, spot, value, value),
-        Ended::Threw(cause) => Ok(threw(*cause)),
+        Ended::Value(value) => {
+            let back = copied(alloc, &value)?;
+            spot_written(machine, tree, spot, value, back)
+        }
+        Ended::Threw(cause) => Ok(threw(cause)),
         Ended::Past => Ok(Next::Ended(Evaluated::Past)),
     }
 }
@@ -430,17 +448,17 @@ fn bumped(
     tree: &Tree,
     gives: Gives,
     was: Value,
-    spot: &Spot,
-    ended: &Ended,
+    spot: Spot,
+    ended: Ended,
 ) -> Result<Next, NoMemory>
-    ensures { IfOk result (λ y. Stores (laid tree.now) spot.now ended.now (λ u. chosen_by gives was u) (standing machine.old) (standing machine.new) y) }
+    ensures { IfOk result (λ y. Stores (laid tree.now) spot ended (λ u. chosen_by gives was u) (standing machine.old) (standing machine.new) y) }
 {
     match ended {
         Ended::Value(value) => {
-            let back = chosen_by(alloc, gives, was, value)?;
-            spot_written(machine, alloc, tree, spot, value, &back)
+            let back = chosen_by(alloc, gives, was, &value)?;
+            spot_written(machine, tree, spot, value, back)
         }
-        Ended::Threw(cause) => Ok(threw(*cause)),
+        Ended::Threw(cause) => Ok(threw(cause)),
         Ended::Past => Ok(Next::Ended(Evaluated::Past)),
     }
 }
@@ -502,11 +520,11 @@ pub(crate) fn assigned(
         }
         Frame::Assigned(op, was, spot) => {
             let ended = updated(alloc, op, was, value)?;
-            stored(machine, alloc, tree, &spot, &ended)
+            stored(machine, alloc, tree, spot, ended)
         }
         Frame::Bumped(by, gives, spot) => {
             let ended = added(&value, by);
-            bumped(machine, alloc, tree, gives, value, &spot, &ended)
+            bumped(machine, alloc, tree, gives, value, spot, ended)
         }
         _ => Err(NoMemory),
     }

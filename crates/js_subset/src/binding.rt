@@ -1,12 +1,13 @@
 //! A `Qt.binding` that is assigned.
 
-ghost use Rattle.std.specs.Prelude.{◌≡◌, ◌&&◌, IfOk};
+ghost use Rattle.std.specs.Prelude.{◌≡◌, ◌&&◌, None, if◌then◌else◌, IfOk};
 ghost use Rattle.js_locals.specs.Laid.{laid};
 ghost use Rattle.js_frames.specs.Meant.{bound_of};
-ghost use Rattle.js_frames.specs.Spots.{is_bound, is_steps, is_named, is_member, is_function, single_function, BoundAt};
+ghost use Rattle.js_frames.specs.Spots.{is_steps, is_named, is_member, function_place, single_function, BoundAt};
 
 use js_locals::{first_part, next_part, node_at};
 use js_methods::named;
+use qml_base::Place;
 use qml_syntax::{Node, Tree};
 use qml_text::NoMemory;
 
@@ -40,54 +41,53 @@ fn is_member(node: &Node) -> bool
     }
 }
 
-/// Whether it is a call with a function as its only argument.
-fn is_function(node: &Node) -> bool
-    ensures { result ≡ is_function node.now }
+/// Where a call stands that has a function as its only argument.
+fn function_place(node: &Node) -> Option<Place>
+    ensures { result ≡ function_place node.now }
 {
     match node {
-        Node::Binding(_) => true,
-        _ => false,
+        Node::Binding(place) => Some(*place),
+        _ => None,
     }
 }
 
-/// Whether one such call stands behind a part, and nothing behind it.
+/// Where one such call stands behind a part, with nothing behind it.
 #[tactic(auto, using(js_frames::proofs::BoundLemmas::single_none, js_frames::proofs::BoundLemmas::single_other, js_frames::proofs::BoundLemmas::single_more, js_frames::proofs::BoundLemmas::single_last))]
-fn is_single(tree: &Tree, part: usize) -> Result<bool, NoMemory>
+fn single_function(tree: &Tree, part: usize) -> Result<Option<Place>, NoMemory>
     ensures { IfOk result (λ b. b ≡ single_function ((laid tree.now).rest part)) }
 {
     let Some(call) = next_part(tree, part) else {
-        return Ok(false);
+        return Ok(None);
     };
     let Some(node) = node_at(tree, call) else {
         return Err(NoMemory);
     };
-    if is_function(node) {
-        match next_part(tree, call) {
-            None => Ok(true),
-            Some(_) => Ok(false),
-        }
-    } else {
-        Ok(false)
+    match function_place(node) {
+        None => Ok(None),
+        Some(place) => match next_part(tree, call) {
+            None => Ok(Some(place)),
+            Some(_) => Ok(None),
+        },
     }
 }
 
-/// Whether all three hold.
-fn all_of(first: bool, second: bool, third: bool) -> bool
-    ensures { result ≡ ((first && second) && third) }
+/// The place, where both hold.
+fn place_if(first: bool, second: bool, place: Option<Place>) -> Option<Place>
+    ensures { result ≡ (if first && second then place else None) }
 {
-    first && second && third
+    if first && second { place } else { None }
 }
 
-/// Whether the steps at a place are a `Qt.binding` with its function.
+/// Where the call of the `Qt.binding` stands that the steps at a place are.
 #[tactic(auto, using(crate::proofs::FoundLemmas::steps_bound_as, js_frames::proofs::BoundLemmas::plain_unbound))]
-fn is_bound_at(tree: &Tree, at: usize) -> Result<bool, NoMemory>
+fn bound_at(tree: &Tree, at: usize) -> Result<Option<Place>, NoMemory>
     ensures { IfOk result (λ b. BoundAt (laid tree.now) at b) }
 {
     let Some(whole) = node_at(tree, at) else {
         return Err(NoMemory);
     };
     if !is_steps(whole) {
-        return Ok(false);
+        return Ok(None);
     }
     let Some(first) = first_part(tree, at) else {
         return Err(NoMemory);
@@ -103,19 +103,19 @@ fn is_bound_at(tree: &Tree, at: usize) -> Result<bool, NoMemory>
     };
     let is_first = is_qt(name);
     let is_second = is_member(member);
-    let single = is_single(tree, step)?;
-    Ok(all_of(is_first, is_second, single))
+    let single = single_function(tree, step)?;
+    Ok(place_if(is_first, is_second, single))
 }
 
-/// Whether a `Qt.binding` stands behind a target.
+/// Where the call of the `Qt.binding` stands that is all behind a target.
 #[tactic(auto, using(js_frames::proofs::BoundLemmas::nothing_bound, js_frames::proofs::BoundLemmas::bound_behind))]
-pub(crate) fn is_bound(tree: &Tree, target: usize) -> Result<bool, NoMemory>
-    ensures { IfOk result (λ b. b ≡ is_bound (bound_of ((laid tree.now).rest target))) }
+pub(crate) fn bound(tree: &Tree, target: usize) -> Result<Option<Place>, NoMemory>
+    ensures { IfOk result (λ b. b ≡ bound_of ((laid tree.now).rest target)) }
 {
     match next_part(tree, target) {
-        None => Ok(false),
+        None => Ok(None),
         Some(right) => {
-            let bound = is_bound_at(tree, right)?;
+            let bound = bound_at(tree, right)?;
             Ok(bound)
         }
     }

@@ -72,7 +72,7 @@ fn begin_body(
 
 /// Calls a body.
 #[tactic(auto, using(js_frames::proofs::CallLemmas::enters_body))]
-pub(crate) fn entered<C: Code>(
+pub fn entered<C: Code>(
     machine: &mut Machine,
     alloc: Global,
     code: &C,

@@ -12,8 +12,10 @@ mod evaluating;
 mod running;
 mod starting;
 
+pub use calling::entered;
 pub use evaluating::{UnitRules, eval};
 pub use evaluation::{Rules, View};
 pub use js_frames::{Code, Machine};
 pub use js_methods::{math, method, text_from};
 pub use js_operators::{operate, operate_prefix, operate_rounded};
+pub use running::{done, given, moved_within, repeated, stopped};

@@ -1,8 +1,9 @@
 //! The machine from its start to its end.
 
-ghost use Rattle.std.specs.Prelude.{◌≡◌, ◌∷◌, [], IfOk};
+ghost use Rattle.std.specs.Prelude.{◌≡◌, ◌⊎◌, ◌<◌, ◌≤◌, ◌∷◌, [], if◌then◌else◌, IfOk};
 ghost use Rattle.js_locals.specs.Laid.{laid};
 ghost use Rattle.js_frames.specs.Standing.{standing, with_frame};
+ghost use Rattle.js_frames.specs.Moves.{Refuses};
 ghost use Rattle.js_frames.specs.Statements.{GoesOn, Gives, Stops, GoesAgain};
 ghost use Rattle.js_frames.specs.Stepping.{Goes, Unwinds, has_ended_of};
 ghost use Rattle.js_progress.specs.Moving.{MovesAt, Moves, Nears};
@@ -11,10 +12,11 @@ use crate::assigning::{assigned, found_for, is_of_assignment, spot, targets};
 use crate::calling::{entered, returned};
 use evaluation::{Evaluated, View};
 use js_direct::begun_directly;
-use js_frames::{Code, Frame, Here, Machine, Next, Spot};
+use js_frames::{Callee, Code, Deed, Frame, Here, Machine, Next, Spot};
+use js_looking::threw;
 use js_statements::{declared, gives, goes_again, goes_on, rested, run_at, stops, taken};
-use js_steps::{arguments, resumed, signs, stepped};
-use qml_base::Home;
+use js_steps::{arguments, hidden_read, resumed, signs, stepped};
+use qml_base::{Cause, ExprNo, Home, ObjNo};
 use qml_syntax::Tree;
 use qml_text::NoMemory;
 use qml_value::Value;
@@ -114,7 +116,7 @@ fn found<V: View>(
 
 /// One move within the code that is under way.
 #[tactic(auto, using(js_progress::proofs::MovingLemmas::steps_at, js_progress::proofs::MovingLemmas::signs_at, js_progress::proofs::MovingLemmas::args_at, js_progress::proofs::MovingLemmas::runs_at, js_progress::proofs::MovingLemmas::rests_at, js_progress::proofs::MovingLemmas::vars_at))]
-fn moved_within<V: View>(
+pub fn moved_within<V: View>(
     machine: &mut Machine,
     alloc: Global,
     tree: &Tree,
@@ -164,12 +166,12 @@ fn moved_within<V: View>(
             Ok(next)
         }
         Next::Enter(_, _, _, _) | Next::Done | Next::Give(_) => Err(NoMemory),
-        Next::Stop | Next::Again | Next::Ended(_) => Err(NoMemory),
+        Next::Stop | Next::Again | Next::Deed(_) | Next::Ended(_) => Err(NoMemory),
     }
 }
 
 /// Goes on behind a statement.
-fn done(machine: &mut Machine, here: &mut Here, tree: &Tree) -> Result<Next, NoMemory>
+pub fn done(machine: &mut Machine, here: &mut Here, tree: &Tree) -> Result<Next, NoMemory>
     ensures { IfOk result (λ y. Unwinds (GoesOn (laid tree.now)) Value.Undefined here.old here.new (standing machine.old) (standing machine.new) y) }
 {
     match machine.frames.pop() {
@@ -185,7 +187,7 @@ fn done(machine: &mut Machine, here: &mut Here, tree: &Tree) -> Result<Next, NoM
 }
 
 /// Goes on behind a `return` with this value.
-fn given(
+pub fn given(
     machine: &mut Machine,
     here: &mut Here,
     tree: &Tree,
@@ -206,7 +208,7 @@ fn given(
 }
 
 /// Goes on behind a `break`.
-fn stopped(machine: &mut Machine, here: &mut Here, tree: &Tree) -> Result<Next, NoMemory>
+pub fn stopped(machine: &mut Machine, here: &mut Here, tree: &Tree) -> Result<Next, NoMemory>
     ensures { IfOk result (λ y. Unwinds (Stops (laid tree.now)) Value.Undefined here.old here.new (standing machine.old) (standing machine.new) y) }
 {
     match machine.frames.pop() {
@@ -222,7 +224,7 @@ fn stopped(machine: &mut Machine, here: &mut Here, tree: &Tree) -> Result<Next, 
 }
 
 /// Goes on behind a `continue`.
-fn repeated(machine: &mut Machine, here: &mut Here, tree: &Tree) -> Result<Next, NoMemory>
+pub fn repeated(machine: &mut Machine, here: &mut Here, tree: &Tree) -> Result<Next, NoMemory>
     ensures { IfOk result (λ y. Unwinds (GoesAgain (laid tree.now)) Value.Undefined here.old here.new (standing machine.old) (standing machine.new) y) }
 {
     match machine.frames.pop() {
@@ -237,8 +239,54 @@ fn repeated(machine: &mut Machine, here: &mut Here, tree: &Tree) -> Result<Next,
     }
 }
 
+/// A `Qt.binding` is assigned where no effect is done: three nodes more, and then a throw.
+fn rebind_refused(machine: &Machine) -> Next
+    ensures { ((machine.now.left < 3) × (result ≡ Next.Ended (Evaluated.Threw Cause.Nodes))) ⊎ ((3 ≤ machine.now.left) × (result ≡ Next.Ended (Evaluated.Threw Cause.Call))) }
+{
+    if machine.left < 3 {
+        threw(Cause::Nodes)
+    } else {
+        threw(Cause::Call)
+    }
+}
+
+/// The arguments of a document's function, or of nothing that can be called.
+fn reached(may: bool, body: ExprNo, object: ObjNo, at: usize) -> Next
+    ensures { result ≡ Next.Args (if may then Callee.Body body object else Callee.Nothing) at }
+{
+    if may {
+        Next::Args(Callee::Body(body, object), at)
+    } else {
+        Next::Args(Callee::Nothing, at)
+    }
+}
+
+/// Goes on where an effect would be done: it throws, and a document's function is reached where it may be.
+fn refused<V: View>(
+    machine: &mut Machine,
+    alloc: Global,
+    tree: &Tree,
+    view: &V,
+    deed: Deed,
+) -> Result<Next, NoMemory>
+    ensures { IfOk result (λ y. Refuses (record { names = V.names view.now; view = V.seen view.now }) (laid tree.now) deed (standing machine.old) (standing machine.new) y) }
+{
+    match deed {
+        Deed::Reach(body, object, may, at) => Ok(reached(may, body, object, at)),
+        Deed::Read(_, cell, name, arguments, at) => {
+            let next = hidden_read(machine, alloc, tree, view, cell, name, arguments, at)?;
+            Ok(next)
+        }
+        Deed::Rebind(_) => Ok(rebind_refused(machine)),
+        Deed::Emit(_, _, _, _) => Ok(threw(Cause::Call)),
+        Deed::Do(_, _, _, _) => Ok(threw(Cause::Call)),
+        Deed::Log(_, _) => Ok(threw(Cause::Call)),
+        Deed::Write(_) => Ok(threw(Cause::Call)),
+    }
+}
+
 /// One move.
-#[tactic(auto, using(js_progress::proofs::MovingLemmas::enters_when, js_progress::proofs::MovingLemmas::done_when, js_progress::proofs::MovingLemmas::given_when, js_progress::proofs::MovingLemmas::stopped_when, js_progress::proofs::MovingLemmas::repeated_when, js_progress::proofs::MovingLemmas::within_at))]
+#[tactic(auto, using(js_progress::proofs::MovingLemmas::refuses_when, js_progress::proofs::MovingLemmas::enters_when, js_progress::proofs::MovingLemmas::done_when, js_progress::proofs::MovingLemmas::given_when, js_progress::proofs::MovingLemmas::stopped_when, js_progress::proofs::MovingLemmas::repeated_when, js_progress::proofs::MovingLemmas::within_at))]
 fn moved<V: View, C: Code>(
     machine: &mut Machine,
     alloc: Global,
@@ -255,6 +303,10 @@ fn moved<V: View, C: Code>(
     match next {
         Next::Enter(body, object, values, at) => {
             let next = entered(machine, alloc, code, here, body, object, values, at)?;
+            Ok(next)
+        }
+        Next::Deed(deed) => {
+            let next = refused(machine, alloc, tree, view, deed)?;
             Ok(next)
         }
         Next::Done => {

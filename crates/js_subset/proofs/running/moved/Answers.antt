@@ -1,10 +1,14 @@
 use Rattle.js_frames.specs.Standing.{standing}
-use Rattle.js_progress.proofs.MovingLemmas.{enters_when, done_when, given_when, stopped_when, repeated_when, within_at}
+use Rattle.js_progress.proofs.MovingLemmas.{enters_when, refuses_when, done_when, given_when, stopped_when, repeated_when, within_at}
 use Rattle.js_subset.proofs.running.moved.Goals as goal
 
 pub returns-in_ok-next-in-Enter : goal.returns-in_ok-next-in-Enter
 returns-in_ok-next-in-Enter g c =
     enters_when (record { names = g.V.View.names c.args.view.now; view = g.V.View.seen c.args.view.now }) (g.C.Code.meaning c.args.code.now) (g.C.Code.tables c.args.code.now) c.args.here.now c.entered.new.here c.in-Enter.body c.in-Enter.object c.in-Enter.values c.in-Enter.at (standing c.args.machine.now) c.args.next (standing c.entered.new.machine) c.in_ok-next-in-Enter.next c.in-Enter.is c.in_ok-next-in-Enter.ensures
+
+pub returns-in_ok-next-in-Deed : goal.returns-in_ok-next-in-Deed
+returns-in_ok-next-in-Deed g c =
+    refuses_when (record { names = g.V.View.names c.args.view.now; view = g.V.View.seen c.args.view.now }) (g.C.Code.meaning c.args.code.now) (g.C.Code.tables c.args.code.now) c.args.here.now c.in-Some.tree.now c.in-Deed.deed (standing c.args.machine.now) c.args.next (standing c.refused.new.machine) c.in_ok-next-in-Deed.next c.in-Deed.is c.in-Some.ensures c.in_ok-next-in-Deed.ensures
 
 pub returns-in_ok-next-in-Done : goal.returns-in_ok-next-in-Done
 returns-in_ok-next-in-Done g c =
