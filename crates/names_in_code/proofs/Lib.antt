@@ -1,0 +1,2 @@
+pub mod OutwardsLemmas
+pub mod MeantLemmas
