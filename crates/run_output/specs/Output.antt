@@ -2,8 +2,6 @@
 use Rattle.std.specs.Prelude.{ℕ, Bool, true, false, if◌then◌else◌, List, [], ◌∷◌, ◌++◌, Option, Some, None}
 use Rattle.std.specs.List.{list_any, flat_map}
 use Rattle.std.specs.Str.{chars}
-use Rattle.qml_base.specs.declared.numbers.Place.{Place}
-use Rattle.qml_base.specs.declared.load_cause.LoadCause.{LoadCause}
 use Rattle.qml_base.specs.declared.load_cause.LoadCause.TheVariants as cause
 use Rattle.qml_text.specs.Utf.{encode_utf16_all}
 use Rattle.qml_syntax.specs.Tree.{Units}

@@ -1,5 +1,5 @@
 -- The whole run of a root and a script: from the bytes of files and the readings of the clock to what is written.
-use Rattle.std.specs.Prelude.{◌≡◌, ℕ, ◌<◌, ◌≤◌, nat_lt, Bool, true, false, List, [], ◌∷◌, length, Option, Some, None}
+use Rattle.std.specs.Prelude.{◌≡◌, ℕ, ◌<◌, ◌≤◌, nat_lt, Bool, true, false, List, [], length, Option, Some, None}
 use Rattle.qml_outside.specs.Folder.{Folder, file_at}
 use Rattle.qml_lexer.specs.Places.{body_of}
 use Rattle.program_names.specs.Paths.{Path}

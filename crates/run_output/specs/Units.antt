@@ -1,7 +1,6 @@
 -- Lines as units and events: each text of a line is a unit of its own, behind those of the program.
 use Rattle.std.specs.Prelude.{ℕ, suc, nat_lt, Bool, true, false, List, [], ◌∷◌, ◌++◌, if◌then◌else◌, Option, Some, None}
 use Rattle.qml_base.specs.declared.numbers.ExprNo.{ExprNo}
-use Rattle.qml_syntax.specs.Tree.{Units, Stmts}
 use Rattle.program_names.specs.Loaded.{Program}
 use Rattle.program_names.specs.Components.{Roots}
 use Rattle.load_faults.specs.Effects.{line_faults}
