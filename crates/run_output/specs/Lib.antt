@@ -1,0 +1,4 @@
+pub mod Reading
+pub mod Units
+pub mod Output
+pub mod Running
