@@ -1,5 +1,5 @@
 -- What the program writes, and how it ends.
-use Rattle.std.specs.Prelude.{ℕ, Bool, true, false, if◌then◌else◌, List, [], ◌∷◌, ◌++◌, Option, Some, None}
+use Rattle.std.specs.Prelude.{◌≡◌, ℕ, Bool, true, false, if◌then◌else◌, List, [], ◌∷◌, ◌++◌, Option, Some, None}
 use Rattle.std.specs.List.{list_any, flat_map}
 use Rattle.std.specs.Str.{chars}
 use Rattle.qml_base.specs.declared.load_cause.LoadCause.TheVariants as cause
@@ -90,3 +90,16 @@ output_by false trace whole = unended trace
 -- what a run tells, and whether all answers that its lines take are there
 abbrev pub output_of : Bool → Run → Output
 output_of is_all run = output_by is_all run.machine.trace run.ends
+
+-- ---- the last entry is that of the ending
+
+pub record TellsEnding (o : Output) (e : Ending) : Type 0 where
+  pub front : List Entry
+  pub is : o.entries ≡ front ++ end_entry e ∷ []
+
+abbrev pub EndsBy : Output → Option Ending → Type 0
+EndsBy o None = Unit {0}
+EndsBy o (Some e) = TellsEnding o e
+
+abbrev pub EndsSo : Output → Type 0
+EndsSo o = EndsBy o o.ending

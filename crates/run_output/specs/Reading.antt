@@ -42,7 +42,8 @@ pub record ReadsAll (y : Entry) (characters : List ℕ) (w : Whole) : Type 0 whe
 
 -- what a line of a kind and a text does
 pub data DoesAs : LineKind → Units → Doing → Type 0 where
-  as_statements : {text : Units} {ss : Stmts} → ReadsAll a_body (behind_word text) (whole_body ss) → DoesAs asks.Do text (runs ss)
+  as_statements : {text : Units} {ss : Stmts} → ReadsAll a_body (behind_word text) (whole_body ss)
+      → DoesAs asks.Do text (runs ss)
   as_path : {text : Units} {e : Expr} → ReadsAll an_expression (behind_word text) (whole_expr e)
       → DoesAs asks.PrintPath text (shows (encode_utf16_all (behind_word text)) e)
   as_print : {text : Units} → DoesAs asks.Print text shows_all
@@ -52,5 +53,6 @@ pub data DoesAs : LineKind → Units → Doing → Type 0 where
 -- the lines that were told are these
 pub data AreLines : List Line → List ScriptLine → Type 0 where
   no_lines : AreLines [] []
-  a_line : {line : Line} {does : Doing} {lines : List Line} {rest : List ScriptLine} → DoesAs line.what line.text does → AreLines lines rest
+  a_line : {line : Line} {does : Doing} {lines : List Line} {rest : List ScriptLine} → DoesAs line.what line.text does
+      → AreLines lines rest
       → AreLines (line ∷ lines) (record { number = line.number; shown = line.text; does = does } ∷ rest)

@@ -29,8 +29,10 @@ pub data ScriptRead : Type 0 where
 pub data ReadsScript : Option (List ℕ) → ScriptRead → Type 0 where
   missing : ReadsScript None (refused_at 0)
   too_large : {bytes : List ℕ} → 4194304 < length bytes → ReadsScript (Some bytes) (refused_at 0)
-  bad_line : {bytes : List ℕ} {n : ℕ} → length bytes ≤ 4194304 → FirstBad 1 (lines_of (body_of bytes)) n → ReadsScript (Some bytes) (refused_at n)
-  all_lines : {bytes : List ℕ} {said : List Line} {lines : List ScriptLine} → length bytes ≤ 4194304 → Say 1 (lines_of (body_of bytes)) said
+  bad_line : {bytes : List ℕ} {n : ℕ} → length bytes ≤ 4194304 → FirstBad 1 (lines_of (body_of bytes)) n
+      → ReadsScript (Some bytes) (refused_at n)
+  all_lines : {bytes : List ℕ} {said : List Line} {lines : List ScriptLine} → length bytes ≤ 4194304
+      → Say 1 (lines_of (body_of bytes)) said
       → AreLines said lines → ReadsScript (Some bytes) (has_lines lines)
 
 -- ---- what is asked for: a root and a script, so many deliveries a line, and the stage up to which all forms are built
@@ -44,8 +46,8 @@ pub record Asked : Type 0 where
 -- the lines are run
 abbrev pub run_lines : Asked → List ℕ → Program → Roots → List ScriptLine → Output
 run_lines asked readings p roots lines =
-    let units = units_with p roots lines in
-    output_of (has_readings readings lines) (run_of units 0 (shown_path asked.root) asked.most (events_from (length p) readings lines))
+    let events = events_from (length p) readings lines in
+    output_of (has_readings readings lines) (run_of (units_with p roots lines) 0 (shown_path asked.root) asked.most events)
 
 abbrev pub unless_later : Asked → List ℕ → Program → Roots → List ScriptLine → Option ℕ → Output
 unless_later asked readings p roots lines (Some n) = refused_script asked.script n true
@@ -53,12 +55,14 @@ unless_later asked readings p roots lines None = run_lines asked readings p root
 
 abbrev pub unless_refused : Asked → List ℕ → Program → Roots → List ScriptLine → Option ℕ → Output
 unless_refused asked readings p roots lines (Some n) = refused_script asked.script n false
-unless_refused asked readings p roots lines None = unless_later asked readings p roots lines (first_line (is_of_later asked.built) lines)
+unless_refused asked readings p roots lines None =
+    unless_later asked readings p roots lines (first_line (is_of_later asked.built) lines)
 
 -- of the lines that are refused the first is told, and only then one that isn't built yet
 abbrev pub with_script : Asked → List ℕ → Program → Roots → ScriptRead → Output
 with_script asked readings p roots (refused_at n) = refused_script asked.script n false
-with_script asked readings p roots (has_lines lines) = unless_refused asked readings p roots lines (first_line (is_refused p roots 0) lines)
+with_script asked readings p roots (has_lines lines) =
+    unless_refused asked readings p roots lines (first_line (is_refused p roots 0) lines)
 
 -- ---- the whole
 
@@ -66,7 +70,8 @@ abbrev pub is_later : Stage → Program → Roots → Bool
 is_later built p roots = nat_lt (rank built) (rank (stage_of_program p roots))
 
 -- the script of a program that is loaded is read and run
-pub record IsByScript (asked : Asked) (readings : List ℕ) (files : Folder) (p : Program) (roots : Roots) (output : Output) : Type 0 where
+pub record IsByScript (asked : Asked) (readings : List ℕ) (files : Folder) (p : Program) (roots : Roots) (output : Output)
+    : Type 0 where
   pub read : ScriptRead
   pub reads : ReadsScript (file_at files asked.script) read
   pub is : output ≡ with_script asked readings p roots read
@@ -83,8 +88,8 @@ IsByLoading asked readings files sources (loads known order) output =
     IsUnlessLater (is_later asked.built p (roots_of p)) asked readings files p (roots_of p) output
 IsByLoading asked readings files sources unending output = ⊥
 
--- What is written for a root and a script over these files, where the clock reads so: the program is loaded or refused, the script
--- is read or refused, and its lines are run.
+-- What is written for a root and a script over these files, where the clock reads so: the program is loaded or refused,
+-- the script is read or refused, and its lines are run.
 pub record IsOutput (asked : Asked) (files : Folder) (readings : List ℕ) (output : Output) : Type 0 where
   pub sources : Sources
   pub are : AreOf (Some files) sources

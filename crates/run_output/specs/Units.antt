@@ -57,11 +57,12 @@ text_of u = record { unit = unit_no u; at = 0 }
 abbrev pub shown_event : ScriptLine → Event → ShownEvent
 shown_event line e = record { shown = line.shown; event = e }
 
--- the events from a line on: `next` are those behind it, by the number of the next unit and the readings that are left; where
--- a reading is wanting, the events end
+-- the events from a line on: `next` are those behind it, by the number of the next unit and the readings that are left;
+-- where a reading is wanting, the events end
 abbrev pub events_of_line : ℕ → List ℕ → ScriptLine → Doing → (ℕ → List ℕ → List ShownEvent) → List ShownEvent
 events_of_line u readings line (runs ss) next = shown_event line (statements (text_of u)) ∷ next (suc u) readings
-events_of_line u readings line (shows path e) next = shown_event line (print_path path (text_of u)) ∷ next (suc u) readings
+events_of_line u readings line (shows path e) next =
+    shown_event line (print_path path (text_of u)) ∷ next (suc u) readings
 events_of_line u readings line shows_all next = shown_event line print_all ∷ next u readings
 events_of_line u readings line (goes_on n) next = shown_event line (advance n) ∷ next u readings
 events_of_line u [] line ticks next = []
