@@ -1,9 +1,8 @@
 -- The handlers by the tables are those of the program.
-use Rattle.std.proofs.Common.{◌≡◌, ◌∙◌, ap, sym, refl, ℕ, ◌+◌, Bool, true, false, List, [], ◌∷◌, ◌++◌, length, map, Option, Some, None}
+use Rattle.std.proofs.Common.{◌≡◌, ◌∙◌, ap, refl, ℕ, Bool, true, false, List, [], ◌∷◌, ◌++◌, map, Option, Some, None}
 use Rattle.std.specs.Prelude.{◌&&◌, if◌then◌else◌, codes}
 use Rattle.std.specs.Str.{bytes_eq}
 use Rattle.std.specs.List.{flat_map, filter_map, cons_option}
-use Rattle.std.proofs.lemmas.List.{map-append}
 use Rattle.qml_base.specs.declared.numbers.Place.{Place}
 use Rattle.qml_syntax.specs.Tree.{Units, Function}
 use Rattle.qml_types.specs.declared.kind.TypeNo.TheVariants as no
@@ -11,9 +10,8 @@ use Rattle.qml_types.specs.declared.kind.TypeRef.TheVariants.{Builtin}
 use Rattle.program_names.specs.Names.{is_handler_name, handler_of}
 use Rattle.program_names.specs.Written.{WrittenValue, a_value, a_function}
 use Rattle.program_names.specs.Loaded.{Program}
-use Rattle.program_names.specs.Layers.{names, is_a, is_type}
+use Rattle.program_names.specs.Layers.{names, is_type}
 use Rattle.program_tables.specs.declared.names.UnitNames.{UnitNames}
-use Rattle.program_tables.specs.Types.{base_in, any_of}
 use Rattle.program_tables.specs.Stands.{Stands, is_there}
 use Rattle.program_tables.proofs.TypeLemmas.{types_as_meant}
 use Rattle.document_tables.specs.declared.program.DocumentTable.{DocumentTable}
@@ -25,11 +23,11 @@ use Rattle.unit_rows.specs.declared.names.SignalRef.{SignalRef}
 use Rattle.unit_rows.specs.declared.names.SignalRef.TheVariants as signal
 use Rattle.unit_rows.specs.NamesOfObjects.{rows_of_type, handlers_of}
 use Rattle.declared_signals.specs.declared.declaring.UnitSignals.{UnitSignals}
-use Rattle.declared_signals.specs.Told.{Signal, if_handled}
+use Rattle.declared_signals.specs.Told.{Signal}
 use Rattle.handled_signals.specs.Handled.{signal_with, signals_handled}
 use Rattle.handled_signals.specs.Meant.{SignalsTold}
 use Rattle.handled_signals.proofs.ProgramLemmas.{signals_as_meant}
-use Rattle.given_handlers.specs.Given.{is_for_target, handler_row, row_of_signal, under_name, of_component, attached, handlers_given, handlers_of_function}
+use Rattle.given_handlers.specs.Given.{is_for_target, handler_row, row_of_signal, handlers_given, handlers_of_function}
 
 -- ---- the signals that names find
 
