@@ -59,7 +59,9 @@ fn built_in_seen(found: BuiltInName) -> Option<Found>
     match found {
         BuiltInName::Method => Some(Found::Method),
         BuiltInName::Children => None,
-        BuiltInName::Cell { .. } | BuiltInName::Changed | BuiltInName::Signal { .. } => Some(Found::Member),
+        BuiltInName::Cell { .. } | BuiltInName::Changed | BuiltInName::Signal { .. } => Some(
+            Found::Member,
+        ),
     }
 }
 
@@ -74,9 +76,8 @@ fn seen(names: &Names, name: &Text, meaning: Meaning) -> Option<Found>
             object,
             row,
         } => Some(function_seen(names, document, object, row, name)),
-        Meaning::Cell { .. } | Meaning::Changed | Meaning::Signal { .. } | Meaning::Alias { .. } => {
-            Some(Found::Member)
-        }
+        Meaning::Cell { .. } | Meaning::Changed | Meaning::Signal { .. } | Meaning::Alias { .. } =>
+            { Some(Found::Member) }
     }
 }
 
